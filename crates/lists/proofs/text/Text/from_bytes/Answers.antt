@@ -1,0 +1,18 @@
+use Rattle.std.proofs.Common.{◌≡◌, Bool, true, false, ℕ, List, refl, ap, ◌∙◌}
+use Rattle.std.specs.Str.{IsUtf8, is_utf8}
+use Rattle.std.proofs.lemmas.Str.{IsUtf8-from_is_utf8, is_utf8-from_IsUtf8}
+use Rattle.lists.proofs.text.Text.from_bytes.Goals as goal
+
+is_utf8-no : (bs : List ℕ) → (IsUtf8 bs → ⊥) → is_utf8 bs ≡ false
+is_utf8-no bs h =
+    let go : (b : Bool) → is_utf8 bs ≡ b → b ≡ false = elim [ true ↦ λ e. absurd (h (IsUtf8-from_is_utf8 bs e)) | false ↦ λ e. refl ] in
+    go (is_utf8 bs) refl
+
+pub returns-in_default : goal.returns-in_default
+returns-in_default c = is_utf8-no _ c.in_default.ensures.cases.0
+
+pub returns-in-Ok-from_str : goal.returns-in-Ok-from_str
+returns-in-Ok-from_str c = (is_utf8-from_IsUtf8 _ c.in-Ok.ensures.cases.1, c.in-Ok-from_str.ensures.ok ∙ c.in-Ok.ensures.cases.0)
+
+pub returns-in-Err : goal.returns-in-Err
+returns-in-Err c = is_utf8-from_IsUtf8 _ c.in-Ok.ensures.cases.1
