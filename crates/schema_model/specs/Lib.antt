@@ -1,0 +1,4 @@
+pub mod Classes
+pub mod Fits
+pub mod Reading
+pub mod Spelling

@@ -1,6 +1,7 @@
 //! What a state is made of: classes, fields and homes, values and places, and the bytes of scalars.
 #![tactic(auto)]
 
+pub mod class;
 pub mod fault;
 pub mod number;
 pub mod place;
@@ -8,10 +9,11 @@ pub mod scalar;
 pub mod schema;
 pub mod value;
 
+pub use class::{Class, Classes, FieldDecl, Fields, Item, Shape};
 pub use fault::{ReadFault, ScalarFault};
 pub use lists::{Bytes, Memory, Seq, Text, TextFault};
 pub use number::{ConnNum, Id, RefNum, Tag, TypeNum};
 pub use place::{Home, Key, Pair, Place};
 pub use scalar::ScalarKind;
-pub use schema::{Class, Classes, FieldDecl, Fields, Item, Schema, Shape};
+pub use schema::Schema;
 pub use value::Value;

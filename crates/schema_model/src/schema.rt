@@ -1,48 +1,22 @@
-use crate::number::{Tag, TypeNum};
-use crate::scalar::ScalarKind;
-use lists::{Seq, Text};
+use crate::class::Classes;
+use crate::number::TypeNum;
+use std::marker::Model;
 
-/// What a place may hold, but for collections.
-#[derive(Clone, Copy, Debug, PartialEq, Eq)]
-pub enum Item {
-    Scalar(ScalarKind),
-    /// An instance of this class or of a descendant.
-    Class(TypeNum),
-}
-
-/// What a field may hold.
-#[derive(Clone, Copy, Debug, PartialEq, Eq)]
-pub enum Shape {
-    One(Item),
-    Map(Item),
-    Array(Item),
-    Set(Item),
-}
-
-/// A field as its class declares it.
-#[derive(Debug, Drop)]
-pub struct FieldDecl {
-    pub name: Text,
-    pub shape: Shape,
-    /// The view tag; without one the field is shown to everybody.
-    pub tag: Option<Tag>,
-}
-
-pub type Fields = Seq<FieldDecl>;
-
-/// A class. Its fields are its parent's, and then its own.
-#[derive(Debug, Drop)]
-pub struct Class {
-    pub name: Text,
-    pub parent: Option<TypeNum>,
-    pub own: Fields,
-}
-
-pub type Classes = Seq<Class>;
-
-/// A list of classes and the class of the root.
+/// A list of classes and the class of the root. It has at most 256 classes, its type numbers are in
+/// range, its parents stand earlier, and no class has more than 63 fields in all.
 #[derive(Debug, Drop)]
 pub struct Schema {
     pub classes: Classes,
     pub root: TypeNum,
+}
+
+impl Model for Schema {
+    ghost use Rattle.std.specs.Prelude.{IsTrue};
+    ghost use Rattle.schema_model.specs.Classes.{Schema as SchemaOf, is_kept};
+
+    ghost Value = { SchemaOf };
+
+    ghost view = { λ s. record { classes = s.classes; root = s.root } };
+
+    ghost invariant = { λ s. IsTrue (is_kept (record { classes = s.classes; root = s.root })) };
 }

@@ -1,0 +1,2 @@
+pub mod ClassRows
+pub mod ScalarRows
