@@ -1,0 +1,9 @@
+pub mod Values
+pub mod Rows
+pub mod Places
+pub mod Reached
+pub mod Sound
+pub mod State
+pub mod Commands
+pub mod Members
+pub mod Shown
