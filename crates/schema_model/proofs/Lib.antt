@@ -1,2 +1,3 @@
 pub mod ClassRows
+pub mod NumberAgain
 pub mod ScalarRows

@@ -1,0 +1,10 @@
+//! A room: its definition, what happens to it and what it gives, its sessions, and its step.
+#![tactic(auto)]
+
+pub mod definition;
+pub mod event;
+pub mod refusal;
+
+pub use definition::{Defs, Names, RoomDef, Texts, Words};
+pub use event::{Act, RoomEvent, RoomOut, RoomOuts, Stage};
+pub use refusal::Refusal;

@@ -1,0 +1,6 @@
+//! Counted steps.
+#![tactic(auto)]
+
+pub mod counter;
+
+pub use counter::Steps;
