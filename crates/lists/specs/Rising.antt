@@ -1,5 +1,5 @@
 -- Lists that rise by a number of their items: look up, put in, take out.
-use Rattle.std.specs.Prelude.{ℕ, suc, ◌≤◌, ◌<◌, Bool, cond, not, eqb, List, [], ◌∷◌, Option, Some, None, filter, nat_lt, ◌==◌}
+use Rattle.std.specs.Prelude.{ℕ, suc, ◌≤◌, ◌<◌, cond, not, List, [], ◌∷◌, Option, Some, None, filter, map, nat_lt, ◌==◌}
 
 -- the items rise strictly by their keys, and the first isn't below this number
 abbrev pub RisesFrom : {E : Type 0} → (E → ℕ) → ℕ → List E → Type 0
@@ -24,3 +24,7 @@ put key x (e ∷ es) = cond (nat_lt (key x) (key e)) (x ∷ e ∷ es) (cond (key
 -- the list without the item of this key
 abbrev pub remove : {E : Type 0} → (E → ℕ) → ℕ → List E → List E
 remove key k es = filter (λ e. not (key e == k)) es
+
+-- the keys of the items
+abbrev pub keys : {E : Type 0} → (E → ℕ) → List E → List ℕ
+keys key es = map key es

@@ -1,5 +1,5 @@
 -- Bytes that are a text.
-use Rattle.std.specs.Prelude.{◌≡◌, ℕ, List, Bool, true, false, Result, Ok, Err}
+use Rattle.std.specs.Prelude.{◌≡◌, ℕ, List, true, false, Result, Ok, Err}
 use Rattle.std.specs.Str.{is_utf8}
 use Rattle.lists.specs.declared.text.TextFault.{TextFault}
 use Rattle.lists.specs.declared.text.TextFault.TheVariants.{NotUtf8, Memory}

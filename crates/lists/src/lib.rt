@@ -5,6 +5,8 @@ pub mod bytes;
 pub mod memory;
 pub mod rising;
 pub mod seq;
+#[cfg(test)]
+mod tests;
 pub mod text;
 
 pub use bytes::Bytes;

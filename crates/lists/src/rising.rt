@@ -1,9 +1,10 @@
-ghost use Rattle.std.specs.Prelude.{◌≡◌, [], ◌∷◌, ◌++◌, OnOk, OnErr, option_copied};
-ghost use Rattle.lists.specs.Rising.{find, put, remove, IsAbove};
+ghost use Rattle.std.specs.Prelude.{◌≡◌, suc, ◌<◌, ◌≤◌, ◌==◌, None, [], ◌∷◌, ◌++◌, length, take, drop, HoldsAt, is_ok, if◌then◌else◌, OnOk, OnErr, IfOk, IfErr, option_copied};
+ghost use Rattle.lists.specs.Rising.{RisesFrom, IsAbove, find, put, remove};
 
 use crate::memory::Memory;
 use std::alloc::Global;
 use std::marker::Model;
+use std::mem;
 
 /// What has a number by which a list of it rises.
 pub trait Keyed: Drop {
@@ -48,4 +49,73 @@ impl<T: Keyed> Rising<T> {
     {
         self.items.as_slice()
     }
+
+    pub fn len(&self) -> usize
+        ensures { result ≡ length self.now }
+    {
+        self.items.len()
+    }
+
+    pub fn is_empty(&self) -> bool
+        ensures value { result ≡ (length self.now == 0) }
+        ensures rises { RisesFrom T.key 0 self.now }
+    {
+        self.items.is_empty()
+    }
+
+    /// The item with this key.
+    pub fn get(&self, key: u32) -> Option<&T>
+        ensures { option_copied result ≡ find T.key key self.now }
+    {
+        match search(self.items.as_slice(), key) {
+            Ok(at) => Some(&self.items[at]),
+            Err(_) => None,
+        }
+    }
+
+    /// Adds an item behind all others. An `Err` changes nothing.
+    pub fn push(&mut self, item: T) -> Result<(), Memory>
+        requires { IsAbove T.key (T.key item) self.old }
+        ensures { self.new ≡ (if is_ok result then self.old ++ item ∷ [] else self.old) }
+    {
+        self.items.push(item)?;
+        Ok(())
+    }
+
+    /// Puts an item in its place, and answers the one with its key that it replaces. Only an
+    /// item with a new key takes memory.
+    pub fn put(&mut self, item: T) -> Result<Option<T>, Memory>
+        ensures replaced { IfOk result (λ old. old ≡ find T.key (T.key item) self.old) }
+        ensures ok { OnOk result (self.new ≡ put T.key item self.old) }
+        ensures err { OnErr result (self.new ≡ self.old) }
+        ensures absent { OnErr result (find T.key (T.key item) self.old ≡ None) }
+    {
+        match search(self.items.as_slice(), item.key()) {
+            Ok(at) => Ok(Some(mem::replace(&mut self.items[at], item))),
+            Err(at) => {
+                self.items.insert(at, item)?;
+                Ok(None)
+            }
+        }
+    }
+
+    /// Takes the item with this key out.
+    pub fn remove(&mut self, key: u32) -> Option<T>
+        ensures found { result ≡ find T.key key self.old }
+        ensures rest { self.new ≡ remove T.key key self.old }
+    {
+        match search(self.items.as_slice(), key) {
+            Ok(at) => Some(self.items.remove(at)),
+            Err(_) => None,
+        }
+    }
+}
+
+// Where the item with this key stands, or else where it would stand.
+fn search<T: Keyed>(items: &[T], key: u32) -> Result<usize, usize>
+    requires { RisesFrom T.key 0 items.now }
+    ensures found { IfOk result (λ at. (at < length items.now) × HoldsAt (λ e. T.key e ≡ key) items.now at) }
+    ensures missing { IfErr result (λ at. (at ≤ length items.now) × IsAbove T.key key (take at items.now) × RisesFrom T.key (suc key) (drop at items.now)) }
+{
+    items.binary_search_by_key(&key, |item| item.key())
 }

@@ -1,4 +1,4 @@
-ghost use Rattle.std.specs.Prelude.{◌≡◌, [], ◌∷◌, ◌++◌, length, is_ok, if◌then◌else◌};
+ghost use Rattle.std.specs.Prelude.{◌≡◌, ◌-◌, ◌==◌, [], ◌∷◌, ◌++◌, length, take, slice_get, option_to_list, is_ok, if◌then◌else◌};
 
 use crate::memory::Memory;
 use std::alloc::Global;
@@ -28,6 +28,19 @@ impl<T> Seq<T> {
         }
     }
 
+    /// A list, taken over as it is.
+    pub fn from_vec(items: Vec<T>) -> Seq<T>
+        ensures { result ≡ items.items }
+    {
+        Seq { items }
+    }
+
+    pub fn into_vec(self) -> Vec<T>
+        ensures { result.items ≡ self }
+    {
+        self.items
+    }
+
     pub fn as_slice(&self) -> &[T]
         ensures { result.now ≡ self.now }
     {
@@ -40,6 +53,12 @@ impl<T> Seq<T> {
         self.items.len()
     }
 
+    pub fn is_empty(&self) -> bool
+        ensures { result ≡ (length self.now == 0) }
+    {
+        self.items.is_empty()
+    }
+
     /// Adds an item at the end. An `Err` changes nothing.
     pub fn push(&mut self, item: T) -> Result<(), Memory>
     where
@@ -48,5 +67,14 @@ impl<T> Seq<T> {
     {
         self.items.push(item)?;
         Ok(())
+    }
+
+    /// Takes the last item off. An empty list has none, and stays empty.
+    pub fn pop(&mut self) -> Option<T>
+        ensures last { result ≡ slice_get self.old (length self.old - 1) }
+        ensures rest { self.new ≡ take (length self.old - 1) self.old }
+        ensures items { self.old ≡ self.new ++ option_to_list result }
+    {
+        self.items.pop()
     }
 }

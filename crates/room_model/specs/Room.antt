@@ -115,12 +115,12 @@ abbrev pub is_acknowledgement : List ℕ → Bool
 is_acknowledgement bytes = bytes_eq bytes (client_bytes client.Ack)
 
 -- an acknowledged session is due its full state; in other stages the acknowledgement has no effect
+abbrev pub acknowledged_at : Stage → Session → Session
+acknowledged_at Joining s = at_stage Due s
+acknowledged_at stage s = s
+
 abbrev pub acknowledged : Session → Session
-acknowledged s = at_acknowledged s.stage s
-  where
-    at_acknowledged : Stage → Session → Session
-    at_acknowledged Joining s = at_stage Due s
-    at_acknowledged stage s = s
+acknowledged s = acknowledged_at s.stage s
 
 -- ---- a command
 
@@ -141,28 +141,23 @@ after_answer r (Err f) = (r, out.Refused (refusal.Table f) ∷ [])
 -- ---- a tick
 
 -- the frames of a session at a tick: its full state and what waited for it, or its patch where it has an operation
-abbrev pub tick_frames : Schema → List RowEntry → List RowEntry → List RowEntry → Session → List (List ℕ)
-tick_frames schema shared0 shared1 permitted1 s = frames_at s.stage
-  where
-    frames_at : Stage → List (List ℕ)
-    frames_at Due = server_bytes (server.State (full_state schema shared1 permitted1)) ∷ s.queue
-    frames_at Live =
-        if has_operation schema shared0 s.permitted shared1 permitted1
-        then server_bytes (server.Patch (state_frame schema shared0 s.permitted shared1 permitted1)) ∷ []
-        else []
-    frames_at stage = []
+abbrev pub frames_at : Stage → Schema → List RowEntry → List RowEntry → List RowEntry → Session → List (List ℕ)
+frames_at Due schema shared0 shared1 permitted1 s = server_bytes (server.State (full_state schema shared1 permitted1)) ∷ s.queue
+frames_at Live schema shared0 shared1 permitted1 s =
+    if has_operation schema shared0 s.permitted shared1 permitted1
+    then server_bytes (server.Patch (state_frame schema shared0 s.permitted shared1 permitted1)) ∷ []
+    else []
+frames_at stage schema shared0 shared1 permitted1 s = []
+
+-- a session that has seen a tick
+abbrev pub live_session : List RowEntry → Session → Session
+live_session permitted1 s = record { id = s.id; stage = Live; members = ticked s.members; permitted = permitted1; queue = []; keep = s.keep }
 
 -- the session after a tick
-abbrev pub session_ticked : List RowEntry → Session → Session
-session_ticked permitted1 s = ticked_at s.stage
-  where
-    live : Session
-    live = record { id = s.id; stage = Live; members = ticked s.members; permitted = permitted1; queue = []; keep = s.keep }
-
-    ticked_at : Stage → Session
-    ticked_at Due = live
-    ticked_at Live = live
-    ticked_at stage = record { id = s.id; stage = s.stage; members = ticked s.members; permitted = s.permitted; queue = s.queue; keep = s.keep }
+abbrev pub ticked_at : Stage → List RowEntry → Session → Session
+ticked_at Due permitted1 s = live_session permitted1 s
+ticked_at Live permitted1 s = live_session permitted1 s
+ticked_at stage permitted1 s = record { id = s.id; stage = s.stage; members = ticked s.members; permitted = s.permitted; queue = s.queue; keep = s.keep }
 
 -- the session with the pairs of freed instances gone
 abbrev pub session_swept : List RowEntry → Session → Session
@@ -171,7 +166,7 @@ session_swept rows s = record { id = s.id; stage = s.stage; members = live_membe
 -- what a session is sent at a tick of the swept rows
 abbrev pub tick_outs : Schema → List RowEntry → List RowEntry → Session → List RoomOut
 tick_outs schema shared0 rows s =
-    map (out.Send s.id) (tick_frames schema shared0 (shared schema rows) (permitted schema rows s.members.now) s)
+    map (out.Send s.id) (frames_at s.stage schema shared0 (shared schema rows) (permitted schema rows s.members.now) s)
 
 -- a tick of a room whose state and views are swept
 abbrev pub swept_tick : RoomValue → List Session → State → RoomValue × List RoomOut
@@ -183,7 +178,7 @@ swept_tick r ss state = (
     state = state;
     shared = shared r.schema state.rows;
     seats = r.seats;
-    sessions = map (λ (s : Session). session_ticked (permitted r.schema state.rows s.members.now) s) ss;
+    sessions = map (λ (s : Session). ticked_at s.stage (permitted r.schema state.rows s.members.now) s) ss;
   },
   flat_map (tick_outs r.schema r.shared state.rows) ss,
 )

@@ -76,11 +76,12 @@ live_members rows m = record { now = filter (λ (p : Pair). is_live rows p.who) 
 abbrev pub ticked : Members → Members
 ticked m = record { now = m.now; last = m.now; kept = m.now }
 
+-- exactly one of two tests holds
+abbrev pub differs : Bool → Bool → Bool
+differs true b = not b
+differs false b = b
+
 -- the pairs that are in exactly one of now and the last tick's
 abbrev pub changed_pairs : Members → List Pair
 changed_pairs m =
     filter (λ (p : Pair). differs (is_member m.now p.who p.tag) (is_member m.last p.who p.tag)) (with_pairs m.now m.last)
-  where
-    differs : Bool → Bool → Bool
-    differs true b = not b
-    differs false b = b

@@ -50,21 +50,23 @@ item_shown members who i v None = true
 item_shown members who (item.Scalar k) v (Some tag) = true
 item_shown members who (item.Class c) v (Some tag) = is_member members who tag || links_member members tag v
 
--- the field of an instance at an index is shown
+-- a field with this declaration is shown
+abbrev pub declared_field_shown : List Pair → ℕ → Value → Option FieldDecl → Bool
+declared_field_shown members who v None = true
+declared_field_shown members who v (Some d) = field_shown members who d.shape v d.tag
+
+-- the field of an instance of a class is shown
 abbrev pub shows_field : Schema → List Pair → ℕ → ℕ → FieldValue → Bool
-shows_field schema members who class f = shows_declared (field_of schema class f.field)
-  where
-    shows_declared : Option FieldDecl → Bool
-    shows_declared None = true
-    shows_declared (Some d) = field_shown members who d.shape f.value d.tag
+shows_field schema members who class f = declared_field_shown members who f.value (field_of schema class f.field)
+
+-- an item of a collection whose home has this declaration is shown
+abbrev pub declared_item_shown : List Pair → ℕ → Value → Option FieldDecl → Bool
+declared_item_shown members who v None = true
+declared_item_shown members who v (Some d) = item_shown members who (item_of d.shape) v d.tag
 
 -- an item of a collection of this home is shown
 abbrev pub shows_item : Schema → List Pair → ℕ → Home → Value → Bool
-shows_item schema members who home v = shows_declared (home_field schema home)
-  where
-    shows_declared : Option FieldDecl → Bool
-    shows_declared None = true
-    shows_declared (Some d) = item_shown members who (item_of d.shape) v d.tag
+shows_item schema members who home v = declared_item_shown members who v (home_field schema home)
 
 -- a row with its shown places alone; an array keeps the order of its shown items
 abbrev pub shown_row : Schema → List Pair → ℕ → Row → Row

@@ -323,10 +323,11 @@ advanced schema bytes p =
 abbrev pub reading_start : List RowEntry → Progress
 reading_start rows = record { known = kinds_of rows; done = []; block = record { holder = 0; edits = [] }; at = 0; fault = None }
 
+-- what was read, with the last holder's block
+abbrev pub finished : Progress → Readings
+finished p = record { blocks = p.done ++ p.block ∷ []; fault = p.fault }
+
 -- the blocks that bytes spell against the rows known, up to the first fault, and that fault.
 -- Each step takes at least one byte, so as many steps as there are bytes are enough.
 abbrev pub read_blocks : Schema → List RowEntry → List ℕ → Readings
 read_blocks schema rows bytes = finished (times (length bytes) (advanced schema bytes) (reading_start rows))
-  where
-    finished : Progress → Readings
-    finished p = record { blocks = p.done ++ p.block ∷ []; fault = p.fault }
