@@ -1,0 +1,24 @@
+ghost use Rattle.std.specs.Prelude.{◌≡◌, ◌++◌, ◌<◌, ◌≤◌, length, take, IfOk, IfSome, Some};
+ghost use Rattle.outside.specs.Faults.{HasCause};
+ghost use Rattle.outside.specs.Streams.{count_of};
+
+use crate::fault::Failed;
+
+/// Where bytes go.
+pub trait Sink {
+    ghost use Rattle.std.specs.Prelude.{ℕ, List, Option};
+
+    /// How often it has failed.
+    ghost faults: { Self → ℕ };
+
+    /// The bytes that it has taken, where it tells them.
+    ghost taken: { Self → Option (List ℕ) };
+
+    /// Takes a front of the bytes, and answers how many it took. To take none of a piece that isn't
+    /// empty is a failure.
+    fn write(&mut self, from: &[u8]) -> Result<usize, Failed>
+        ensures within { IfOk result (λ count. count ≤ length from.now) }
+        ensures some { IfOk result (λ count. 0 < length from.now → 0 < count) }
+        ensures taken { IfSome (taken self.old) (λ before. taken self.new ≡ Some (before ++ take (count_of result) from.now)) }
+        ensures cause { HasCause (faults self.old) (faults self.new) result };
+}

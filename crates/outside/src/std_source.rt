@@ -1,0 +1,74 @@
+ghost use Rattle.std.specs.Prelude.{◌≡◌, ◌≤◌, length, IfSome, None};
+
+use crate::fault::Failed;
+use crate::source::Source;
+use std::io::{ErrorKind, Read};
+use std::marker::Model;
+
+// How often a read that a signal interrupted is tried.
+const TRIES: u32 = 1000;
+
+/// A source over a reader of std, as `rt.reader()`. It tells nothing of its bytes; contracts see it
+/// as how often it has failed.
+#[derive(Drop)]
+pub struct StdSource<R> {
+    reader: R,
+    faults: u64,
+}
+
+impl<R> Model for StdSource<R> {
+    ghost use Rattle.std.specs.Prelude.{ℕ};
+
+    ghost Value = { ℕ };
+
+    ghost view = { λ s. s.faults };
+}
+
+impl<R> StdSource<R> {
+    /// Takes the reader over.
+    pub fn new(reader: R) -> Self
+        ensures { result ≡ 0 }
+    {
+        StdSource { reader, faults: 0 }
+    }
+
+    /// How often it has failed.
+    pub fn faults(&self) -> u64
+        ensures { result ≡ self.now }
+    {
+        self.faults
+    }
+}
+
+impl<R: Read> Source for StdSource<R> {
+    ghost faults = { λ s. s };
+
+    ghost left = { λ _. None };
+
+    fn read(&mut self, into: &mut [u8]) -> Result<usize, Failed> {
+        match read_some(&mut self.reader, into) {
+            Some(count) => Ok(count),
+            None => {
+                self.faults = self.faults.saturating_add(1);
+                Err(Failed)
+            }
+        }
+    }
+}
+
+// Reads once, and again where a signal interrupted it.
+fn read_some<R: Read>(reader: &mut R, into: &mut [u8]) -> Option<usize>
+    ensures { IfSome result (λ count. count ≤ length into.old) }
+{
+    for _ in 0..TRIES {
+        match reader.read(into) {
+            Ok(count) => return Some(count),
+            Err(error) => {
+                if error.kind() != ErrorKind::Interrupted {
+                    return None;
+                }
+            }
+        }
+    }
+    None
+}
