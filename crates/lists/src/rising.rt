@@ -1,4 +1,5 @@
-ghost use Rattle.std.specs.Prelude.{◌≡◌, suc, ◌<◌, ◌≤◌, ◌==◌, None, [], ◌∷◌, ◌++◌, length, take, drop, HoldsAt, is_ok, if◌then◌else◌, OnOk, OnErr, IfOk, IfErr, option_copied};
+ghost use Rattle.std.specs.Prelude.{◌≡◌, ◌-◌, suc, ◌<◌, ◌≤◌, ◌==◌, None, [], ◌∷◌, ◌++◌, length, take, drop, HoldsAt, is_ok, if◌then◌else◌, OnOk, OnErr, IfOk, IfErr, option_copied};
+ghost use Rattle.std.specs.Option.{option_to_list};
 ghost use Rattle.lists.specs.Rising.{RisesFrom, IsAbove, find, put, remove};
 
 use crate::memory::Memory;
@@ -97,6 +98,14 @@ impl<T: Keyed> Rising<T> {
                 Ok(None)
             }
         }
+    }
+
+    /// Takes the last item out.
+    pub fn pop(&mut self) -> Option<T>
+        ensures items { self.old ≡ self.new ++ option_to_list result }
+        ensures rest { self.new ≡ take (length self.old - 1) self.old }
+    {
+        self.items.pop()
     }
 
     /// Takes the item with this key out.
