@@ -1,5 +1,5 @@
 -- Fields, homes and descent over a schema of three classes, worked out by hand.
-use Rattle.std.specs.Prelude.{◌≡◌, ℕ, List, [], ◌∷◌, pos, true, false, Some, None, refl, map, Option, replicate}
+use Rattle.std.specs.Prelude.{◌≡◌, [], ◌∷◌, pos, true, false, Some, None, refl, map, replicate}
 use Rattle.schema_model.specs.Classes.{Schema, Declared, fields_of, field_of, home_of, home_field, is_kind_of, is_kept}
 use Rattle.schema_model.specs.declared.class.Class.{Class}
 use Rattle.schema_model.specs.declared.class.FieldDecl.{FieldDecl}

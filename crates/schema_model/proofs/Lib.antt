@@ -1,3 +1,4 @@
 pub mod ClassRows
+pub mod FieldCounts
 pub mod NumberAgain
 pub mod ScalarRows

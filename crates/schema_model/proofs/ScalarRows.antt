@@ -1,5 +1,5 @@
 -- Spellings and readings of scalars by their bytes, each case of the definitions by an example.
-use Rattle.std.specs.Prelude.{◌≡◌, ℕ, List, [], ◌∷◌, pos, negsuc, true, false, Ok, Err, refl}
+use Rattle.std.specs.Prelude.{◌≡◌, [], ◌∷◌, pos, negsuc, true, false, Ok, Err, refl}
 use Rattle.std.specs.Str.{is_utf8, chars}
 use lib.Utf8.{encode}
 use Rattle.schema_model.specs.Spelling.{number_bytes, text_head, spelling}

@@ -1,6 +1,6 @@
 -- A schema: its classes with the fields that they inherit, the homes of fields, and what descends from what.
 -- After `@colyseus/schema` 3; the limits are ours.
-use Rattle.std.specs.Prelude.{ℕ, zero, suc, ◌+◌, Bool, true, false, ◌&&◌, List, [], ◌∷◌, ◌++◌, length, map, Option, Some, None, slice_get, nat_lt, nat_le, ◌==◌, if◌then◌else◌, unwrap_or, option_and_then}
+use Rattle.std.specs.Prelude.{ℕ, zero, suc, Bool, true, ◌&&◌, List, [], ◌∷◌, ◌++◌, length, map, Option, Some, None, slice_get, nat_lt, nat_le, ◌==◌, if◌then◌else◌, unwrap_or, option_and_then}
 use Rattle.std.specs.List.{list_any, list_all}
 use Rattle.std.specs.Option.{option_map, option_map_or}
 use Rattle.schema_model.specs.declared.class.Class.{Class}

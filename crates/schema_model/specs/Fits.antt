@@ -1,6 +1,5 @@
 -- Which values fit a kind of scalar, and the widths of the kinds.
-use Rattle.std.specs.Prelude.{ℕ, ◌^◌, ◌&&◌, Bool, true, false, length, ℤ, pos, negsuc, nat_lt, Option, Some, None}
-use Rattle.std.specs.Int.{Width, w8, w16, w32}
+use Rattle.std.specs.Prelude.{ℕ, ◌^◌, Bool, true, false, length, ℤ, pos, negsuc, nat_lt}
 use Rattle.schema_model.specs.declared.scalar.ScalarKind.{ScalarKind}
 use Rattle.schema_model.specs.declared.scalar.ScalarKind.TheVariants as kind
 use Rattle.schema_model.specs.declared.value.Value.{Value}

@@ -1,6 +1,6 @@
 -- What bytes at a place are as a scalar of each kind, with every fault. After `@colyseus/schema` 3;
 -- floating and wider numbers are refused by name, which is ours.
-use Rattle.std.specs.Prelude.{ℕ, zero, suc, ◌+◌, ◌-◌, ◌^◌, Bool, true, false, List, length, take, drop, ℤ, pos, negsuc, if◌then◌else◌, nat_lt, nat_le, ◌==◌, ◌&&◌, Result, Ok, Err}
+use Rattle.std.specs.Prelude.{ℕ, ◌+◌, ◌-◌, List, length, take, drop, ℤ, pos, negsuc, if◌then◌else◌, nat_lt, nat_le, ◌==◌, ◌&&◌, Result, Ok, Err}
 use Rattle.std.specs.Int.{Width, w8, w16, w32, byte_len, from_le_bytes, cast_signed}
 use Rattle.std.specs.Str.{is_utf8}
 use Rattle.schema_model.specs.declared.scalar.ScalarKind.{ScalarKind}

@@ -1,5 +1,5 @@
 -- The bytes of a scalar of each kind, the shortest form. After `@colyseus/schema` 3; all widths are low byte first.
-use Rattle.std.specs.Prelude.{ℕ, ◌+◌, ◌-◌, ◌^◌, Bool, true, false, List, [], ◌∷◌, ◌++◌, length, ℤ, pos, negsuc, if◌then◌else◌, nat_lt}
+use Rattle.std.specs.Prelude.{ℕ, ◌+◌, ◌-◌, Bool, true, false, List, [], ◌∷◌, ◌++◌, length, ℤ, pos, negsuc, if◌then◌else◌, nat_lt}
 use Rattle.std.specs.Int.{Width, w8, w16, w32, to_le_bytes, cast_unsigned}
 use Rattle.schema_model.specs.declared.scalar.ScalarKind.{ScalarKind}
 use Rattle.schema_model.specs.declared.scalar.ScalarKind.TheVariants as kind

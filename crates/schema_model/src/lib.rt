@@ -3,13 +3,16 @@
 
 pub mod class;
 pub mod fault;
+mod kept;
 pub mod number;
 pub mod place;
 pub mod scalar;
 pub mod schema;
+#[cfg(test)]
+mod tests;
 pub mod value;
 
-pub use class::{Class, Classes, FieldDecl, Fields, Item, Shape};
+pub use class::{Class, Classes, FieldDecl, Fields, Item, Shape, copy_classes, copy_fields};
 pub use fault::{ReadFault, ScalarFault};
 pub use lists::{Bytes, Memory, Seq, Text, TextFault};
 pub use number::{ConnNum, Id, RefNum, Tag, TypeNum};

@@ -1,5 +1,11 @@
-use crate::class::Classes;
+ghost use Rattle.std.specs.Prelude.{◌≡◌, IfOk, Some, None, if◌then◌else◌};
+ghost use Rattle.schema_model.specs.Classes.{is_kept};
+
+use crate::class::{Classes, copy_classes};
+use crate::kept::makes_schema;
 use crate::number::TypeNum;
+use lists::Memory;
+use std::alloc::Global;
 use std::marker::Model;
 
 /// A list of classes and the class of the root. It has at most 256 classes, its type numbers are in
@@ -19,4 +25,28 @@ impl Model for Schema {
     ghost view = { λ s. record { classes = s.classes; root = s.root } };
 
     ghost invariant = { λ s. IsTrue (is_kept (record { classes = s.classes; root = s.root })) };
+}
+
+impl Schema {
+    /// The schema of these classes, where they keep the limits.
+    pub fn new(classes: Classes, root: TypeNum) -> Option<Schema>
+        ensures { result ≡ (if is_kept (record { classes = classes; root = root })
+            then Some (record { classes = classes; root = root }) else None) }
+    {
+        if makes_schema(classes.as_slice(), root) {
+            Some(Schema { classes, root })
+        } else {
+            None
+        }
+    }
+
+    /// A second schema with the same classes.
+    pub fn copy(&self, alloc: Global) -> Result<Schema, Memory>
+        ensures { IfOk result (λ x. x ≡ self.now) }
+    {
+        Ok(Schema {
+            classes: copy_classes(alloc, &self.classes)?,
+            root: self.root,
+        })
+    }
 }
