@@ -1,1 +1,9 @@
 pub mod Examples
+pub mod Rises
+pub mod Zoo
+pub mod PlaceRows
+pub mod ReachedRows
+pub mod SoundRows
+pub mod CommandRows
+pub mod RefusalRows
+pub mod ViewRows

@@ -3,8 +3,15 @@
 
 pub mod command;
 pub mod row;
+pub mod rows;
+#[cfg(test)]
+mod tests;
+pub mod value;
 
 pub use command::{Command, TableFault};
 pub use row::{
-    FieldValue, FieldValues, MapItem, MapItems, Row, RowEntry, Rows, SetItem, SetItems, Values,
+    FieldValue, FieldValues, MapItem, MapItems, Row, RowEntry, SetItem, SetItems, Values,
+    copy_field_values, copy_map_items, copy_set_items, copy_values,
 };
+pub use rows::Rows;
+pub use value::same_value;

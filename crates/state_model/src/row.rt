@@ -1,11 +1,26 @@
+ghost use Rattle.std.specs.Prelude.{◌≡◌, IfOk};
+
 use lists::{Keyed, Rising, Seq, Text};
-use schema_model::{Home, RefNum, TypeNum, Value};
+use schema_model::{Home, Memory, RefNum, TypeNum, Value};
+use std::alloc::Global;
 
 /// A present field of an instance.
 #[derive(Debug, Drop)]
 pub struct FieldValue {
     pub field: u8,
     pub value: Value,
+}
+
+impl FieldValue {
+    /// A second field with the same value.
+    pub fn copy(&self, alloc: Global) -> Result<FieldValue, Memory>
+        ensures { IfOk result (λ x. x ≡ self.now) }
+    {
+        Ok(FieldValue {
+            field: self.field,
+            value: self.value.copy(alloc)?,
+        })
+    }
 }
 
 impl Keyed for FieldValue {
@@ -24,6 +39,19 @@ pub struct MapItem {
     pub value: Value,
 }
 
+impl MapItem {
+    /// A second item with the same key and value.
+    pub fn copy(&self, alloc: Global) -> Result<MapItem, Memory>
+        ensures { IfOk result (λ x. x ≡ self.now) }
+    {
+        Ok(MapItem {
+            number: self.number,
+            key: self.key.copy(alloc)?,
+            value: self.value.copy(alloc)?,
+        })
+    }
+}
+
 impl Keyed for MapItem {
     ghost key = { λ f. f.number };
 
@@ -37,6 +65,18 @@ impl Keyed for MapItem {
 pub struct SetItem {
     pub number: u32,
     pub value: Value,
+}
+
+impl SetItem {
+    /// A second item with the same value.
+    pub fn copy(&self, alloc: Global) -> Result<SetItem, Memory>
+        ensures { IfOk result (λ x. x ≡ self.now) }
+    {
+        Ok(SetItem {
+            number: self.number,
+            value: self.value.copy(alloc)?,
+        })
+    }
 }
 
 impl Keyed for SetItem {
@@ -55,6 +95,59 @@ pub type SetItems = Rising<SetItem>;
 
 pub type Values = Seq<Value>;
 
+/// A second list with the same fields.
+pub fn copy_field_values(alloc: Global, fields: &FieldValues) -> Result<FieldValues, Memory>
+    ensures { IfOk result (λ x. x ≡ fields.now) }
+{
+    let mut out = Rising::new(alloc);
+    if fields.is_empty() {
+        return Ok(out);
+    }
+    for field in fields.as_slice() {
+        out.push(field.copy(alloc)?)?;
+    }
+    Ok(out)
+}
+
+/// A second list with the same items.
+pub fn copy_map_items(alloc: Global, items: &MapItems) -> Result<MapItems, Memory>
+    ensures { IfOk result (λ x. x ≡ items.now) }
+{
+    let mut out = Rising::new(alloc);
+    if items.is_empty() {
+        return Ok(out);
+    }
+    for item in items.as_slice() {
+        out.push(item.copy(alloc)?)?;
+    }
+    Ok(out)
+}
+
+/// A second list with the same items.
+pub fn copy_set_items(alloc: Global, items: &SetItems) -> Result<SetItems, Memory>
+    ensures { IfOk result (λ x. x ≡ items.now) }
+{
+    let mut out = Rising::new(alloc);
+    if items.is_empty() {
+        return Ok(out);
+    }
+    for item in items.as_slice() {
+        out.push(item.copy(alloc)?)?;
+    }
+    Ok(out)
+}
+
+/// A second list with the same values.
+pub fn copy_values(alloc: Global, values: &Values) -> Result<Values, Memory>
+    ensures { IfOk result (λ x. x ≡ values.now) }
+{
+    let mut out = Seq::new(alloc);
+    for value in values.as_slice() {
+        out.push(value.copy(alloc)?)?;
+    }
+    Ok(out)
+}
+
 /// An instance of a class with its present fields, or a collection of a home with its items.
 #[derive(Debug, Drop)]
 pub enum Row {
@@ -64,11 +157,40 @@ pub enum Row {
     Set(Home, SetItems),
 }
 
+impl Row {
+    /// A second row with the same places.
+    pub fn copy(&self, alloc: Global) -> Result<Row, Memory>
+        ensures { IfOk result (λ x. x ≡ self.now) }
+    {
+        match self {
+            Row::Struct(class, fields) => Ok(Row::Struct(
+                *class,
+                copy_field_values(alloc, fields)?,
+            )),
+            Row::Map(home, items) => Ok(Row::Map(*home, copy_map_items(alloc, items)?)),
+            Row::Array(home, values) => Ok(Row::Array(*home, copy_values(alloc, values)?)),
+            Row::Set(home, items) => Ok(Row::Set(*home, copy_set_items(alloc, items)?)),
+        }
+    }
+}
+
 /// A row with its reference number.
 #[derive(Debug, Drop)]
 pub struct RowEntry {
     pub who: RefNum,
     pub row: Row,
+}
+
+impl RowEntry {
+    /// A second entry with the same number and row.
+    pub fn copy(&self, alloc: Global) -> Result<RowEntry, Memory>
+        ensures { IfOk result (λ x. x ≡ self.now) }
+    {
+        Ok(RowEntry {
+            who: self.who,
+            row: self.row.copy(alloc)?,
+        })
+    }
 }
 
 impl Keyed for RowEntry {
@@ -78,6 +200,3 @@ impl Keyed for RowEntry {
         self.who.0
     }
 }
-
-/// The rows of a state, rising by reference number.
-pub type Rows = Rising<RowEntry>;

@@ -1,2 +1,10 @@
+pub mod Opened
 pub mod FrameRows
+pub mod GrammarRows
+pub mod ResolvedRows
 pub mod DecodedRows
+pub mod EffectRows
+pub mod AppliedRows
+pub mod EditRows
+pub mod PatchRows
+pub mod BlockRows
