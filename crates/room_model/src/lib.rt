@@ -4,7 +4,9 @@
 pub mod definition;
 pub mod event;
 pub mod refusal;
+#[cfg(test)]
+mod tests;
 
-pub use definition::{Defs, Names, RoomDef, Texts, Words};
+pub use definition::{Defs, Names, RoomDef, Texts, Words, copy_texts};
 pub use event::{Act, RoomEvent, RoomOut, RoomOuts, Stage};
 pub use refusal::Refusal;
