@@ -1,6 +1,6 @@
 -- A hub's value and its step, for the events by which one client creates a room, opens its seat and sees ticks; and a run.
 -- After Colyseus 0.16.
-use Rattle.std.specs.Prelude.{ℕ, ◌+◌, max, Bool, true, false, not, ◌&&◌, List, [], ◌∷◌, ◌++◌, map, filter, Option, Some, None, option_and_then, if◌then◌else◌, ◌==◌}
+use Rattle.std.specs.Prelude.{ℕ, ◌+◌, ◌-◌, ◌^◌, max, min, Bool, true, false, not, ◌&&◌, List, [], ◌∷◌, ◌++◌, map, filter, Option, Some, None, option_and_then, if◌then◌else◌, ◌==◌}
 use Rattle.std.specs.List.{flat_map, find}
 use Rattle.std.specs.Option.{option_map, option_map_or}
 use Rattle.std.specs.Str.{bytes_eq}
@@ -147,9 +147,17 @@ abbrev pub framed : HubValue → List ℕ → Option HubConn → HubValue × Lis
 framed h bytes None = (h, [])
 framed h bytes (Some c) = room_stepped h c.room (event.Frame c.session bytes)
 
+-- a moment; one past the last counts as the last
+abbrev pub moment_of : ℕ → ℕ
+moment_of now = min now (2 ^ 53 - 1)
+
+-- the hub at a moment; it never goes back
+abbrev pub at_moment : ℕ → HubValue → HubValue
+at_moment now h = record { now = max h.now (moment_of now); process = h.process; defs = h.defs; rooms = h.rooms; conns = h.conns }
+
 -- the hub after an event, and what it gives
 abbrev pub hub_step : Schema → HubValue → HubEvent → HubValue × List HubOut
-hub_step schema h (At now) = (record { now = max h.now now; process = h.process; defs = h.defs; rooms = h.rooms; conns = h.conns }, [])
+hub_step schema h (At now) = (at_moment now h, [])
 hub_step schema h (Ask conn target body room session) = asked schema h conn room session (asked_def h.defs target)
 hub_step schema h (Opening conn target fresh) = opened h conn fresh (opened_by h.process target h.rooms)
 hub_step schema h (Frame conn bytes) = framed h bytes (conn_of h conn)

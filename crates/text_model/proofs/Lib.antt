@@ -1,1 +1,17 @@
 pub mod PathRows
+pub mod Spaced
+pub mod DecimalLaw
+pub mod Runs
+pub mod TurnLines
+pub mod EventLines
+pub mod EventsRead
+pub mod Keys
+pub mod HeadLines
+pub mod HeadRead
+pub mod PathForms
+pub mod PathRead
+pub mod EventsTaken
+pub mod HeadTaken
+pub mod PlainLines
+pub mod PlainPath
+pub mod PathLaw
