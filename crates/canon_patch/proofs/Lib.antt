@@ -1,0 +1,3 @@
+pub mod NumberPatches
+pub mod NumberFrames
+pub mod NumberOps

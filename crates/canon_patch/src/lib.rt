@@ -1,0 +1,6 @@
+//! The patch from old rows to new rows.
+#![tactic(auto)]
+
+pub mod fields;
+
+pub use fields::patch;

@@ -1,0 +1,2 @@
+pub mod NumberViews
+pub mod NumberCommands

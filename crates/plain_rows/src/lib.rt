@@ -1,0 +1,10 @@
+//! Calls on plain rows.
+#![tactic(auto)]
+
+pub mod views;
+
+pub use state_model::{
+    Command, FieldValue, FieldValues, MapItem, MapItems, Row, RowEntry, Rows, SetItem, SetItems,
+    TableFault, Values,
+};
+pub use views::permitted;

@@ -1,0 +1,4 @@
+pub mod Values
+pub mod Takes
+pub mod Numbered
+pub mod Steps

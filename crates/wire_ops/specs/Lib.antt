@@ -1,0 +1,2 @@
+pub mod NumberBlocks
+pub mod Fronts

@@ -1,0 +1,7 @@
+//! Operations as bytes.
+#![tactic(auto)]
+
+pub mod write;
+
+pub use wire_model::{Block, Blocks, Op, OpFault, OpKey, OpValue, Ops, RowKind, Step};
+pub use write::write_blocks;
