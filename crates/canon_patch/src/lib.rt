@@ -2,5 +2,7 @@
 #![tactic(auto)]
 
 pub mod fields;
+#[cfg(test)]
+mod tests;
 
 pub use fields::patch;

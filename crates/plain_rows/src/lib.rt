@@ -1,6 +1,8 @@
 //! Calls on plain rows.
 #![tactic(auto)]
 
+#[cfg(test)]
+mod tests;
 pub mod views;
 
 pub use state_model::{

@@ -4,6 +4,8 @@
 pub mod frames;
 pub mod place;
 pub mod room;
+#[cfg(test)]
+mod tests;
 
 pub use place::{Phase, Place};
 pub use room::Room;

@@ -15,3 +15,4 @@ pub mod HeadTaken
 pub mod PlainLines
 pub mod PlainPath
 pub mod PathLaw
+pub mod Ascii
