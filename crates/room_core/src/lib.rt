@@ -4,8 +4,6 @@
 pub mod frames;
 pub mod place;
 pub mod room;
-#[cfg(test)]
-mod tests;
 
 pub use place::{Phase, Place};
 pub use room::Room;
