@@ -1,0 +1,10 @@
+use Rattle.std.proofs.Common.{rules, ◌≡◌, false, is_some}
+use Rattle.text_model.specs.Paths.{path_schema}
+use Rattle.path_hub.proofs.OpenFacts.{open_told}
+use Rattle.path_hub.proofs.hub.PathHub.open.Goals as goal
+
+pub returns-clause-outs : goal.returns-clause-outs
+returns-clause-outs g c =
+    let none : is_some c.args.self.now.conn ≡ false = search rules in
+    open_told _ c.args.path.now (path_schema c.args.path.now) c.args.self.now.now c.args.self.now.room c.args.self.now.conn c.args.conn c.args.fresh none c.requires.fits
+    c.happen.ensures.outs

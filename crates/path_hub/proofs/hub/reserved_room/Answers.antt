@@ -1,0 +1,8 @@
+use Rattle.std.proofs.Common.{rules, arith}
+use Rattle.path_hub.proofs.PathFacts.{seat_within}
+use Rattle.path_hub.proofs.hub.reserved_room.Goals as goal
+
+pub overflow_add-now : goal.overflow_add-now
+overflow_add-now g c =
+    let seat = seat_within c.args.path.now c.requires.path in
+    grind (arith, rules, seat, c.requires.now)

@@ -1,0 +1,75 @@
+-- The hub of a schedule of one room and one client: what it keeps, and which events it takes.
+use Rattle.std.specs.Prelude.{◌≡◌, ℕ, ◌^◌, Bool, true, not, ◌&&◌, List, [], ◌∷◌, length, Option, Some, None, ⊤, nat_lt, ◌==◌}
+use Rattle.schema_model.specs.Fits.{in_signed}
+use Rattle.hub_model.specs.Hub.{HubValue, HubRoom, HubConn}
+use Rattle.room_core.specs.Values.{Held}
+use Rattle.plain_rows.specs.Numbers.{is_number_schema}
+use Rattle.std.specs.Option.{option_map}
+use Rattle.std.specs.Prelude.{IsTrue}
+use Rattle.room_model.specs.declared.event.RoomEvent.{RoomEvent}
+use Rattle.room_model.specs.Room.{RoomValue, room_step}
+use Rattle.room_core.specs.Takes.{takes}
+use Rattle.text_model.specs.Marks.{is_id, is_room_name}
+use Rattle.text_model.specs.Paths.{path_schema, is_within}
+use Rattle.text_model.specs.declared.path.Item.{Item}
+use Rattle.text_model.specs.declared.path.Item.TheVariants.{Ask, Put}
+use Rattle.text_model.specs.declared.path.FirstPath.{FirstPath}
+
+-- the room, where there is one
+abbrev pub rooms_of : FirstPath → Option Held → List HubRoom
+rooms_of p None = []
+rooms_of p (Some h) = record { id = p.room; room = h.room } ∷ []
+
+-- the connection of the session, where there is one
+abbrev pub conns_of : List ℕ → List ℕ → Option ℕ → List HubConn
+conns_of room session None = []
+conns_of room session (Some conn) = record { conn = conn; room = room; session = session } ∷ []
+
+-- the hub of the moment, the room and the connection
+abbrev pub hub_of : FirstPath → ℕ → Option Held → Option ℕ → HubValue
+hub_of p now room conn = record {
+  now = now;
+  process = p.process;
+  defs = p.def ∷ [];
+  rooms = rooms_of p room;
+  conns = conns_of p.room p.session conn;
+}
+
+-- the room has the schedule's schema; the session's reservation is its only one, until it was opened
+abbrev pub Fits : FirstPath → Option Held → Option ℕ → Type 0
+Fits p None None = ⊤
+Fits p None (Some conn) = ⊥
+Fits p (Some h) None =
+    (h.room.schema ≡ path_schema p) × ((lapse : ℕ) × (h.room.seats.reserved ≡ record { session = p.session; lapse = lapse } ∷ []))
+Fits p (Some h) (Some conn) = (h.room.schema ≡ path_schema p) × (h.room.seats.reserved ≡ [])
+
+-- the schema is of numbers, the ids and the room's name are ASCII, nothing is filtered by, and a reservation lapses within an hour
+abbrev pub is_playable : FirstPath → Bool
+is_playable p =
+    is_number_schema (path_schema p) && is_id p.process && is_id p.room && is_id p.session && is_room_name p.def.name
+    && (length p.def.filter == 0) && is_within 1 3600000 p.def.seat
+
+-- whether an event may come: a request only once, and a put only to a field of the class
+abbrev pub may_come : ℕ → Bool → Item → Bool
+may_come fields asked (Ask conn) = not asked
+may_come fields asked (Put field z) = nat_lt field fields && in_signed (2 ^ 31) z
+may_come fields asked i = true
+
+-- whether a request came
+abbrev pub asked_after : Bool → Item → Bool
+asked_after asked (Ask conn) = true
+asked_after asked i = asked
+
+-- whether these events may come, in order
+abbrev pub may_follow : ℕ → Bool → List Item → Bool
+may_follow fields asked [] = true
+may_follow fields asked (i ∷ is) = may_come fields asked i && may_follow fields (asked_after asked i) is
+
+-- the room, where there is one, takes an event
+abbrev pub CanTake : Option Held → RoomEvent → Type 0
+CanTake None e = ⊤
+CanTake (Some h) e = IsTrue (takes h.room e)
+
+-- the room, where there is one, after an event
+abbrev pub after_event : Option Held → RoomEvent → Option RoomValue
+after_event room e = option_map (λ (h : Held). (room_step h.room e).0) room
