@@ -1,3 +1,4 @@
 pub mod PathFacts
 pub mod OpenFacts
 pub mod PutFacts
+pub mod PathPlays

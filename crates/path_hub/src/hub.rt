@@ -1,11 +1,11 @@
-ghost use Rattle.std.specs.Prelude.{◌≡◌, ◌+◌, ◌^◌, ◌<◌, [], ℕ, false, IsTrue, IfOk, OnOk, length, is_some};
+ghost use Rattle.std.specs.Prelude.{◌≡◌, ◌+◌, ◌^◌, ◌<◌, [], ℕ, true, false, IsTrue, IfOk, OnOk, length, is_some};
 ghost use Rattle.hub_model.specs.Hub.{hub_step, room_stepped};
 ghost use Rattle.room_core.specs.Values.{Held};
 ghost use Rattle.std.specs.Option.{option_map};
 ghost use Rattle.room_model.specs.Room.{after_reserve, new_room};
 ghost use Rattle.text_model.specs.declared.path.Item.TheVariants.{Ask, Open, Acknowledge};
 ghost use Rattle.text_model.specs.Paths.{path_schema, event_of};
-ghost use Rattle.path_hub.specs.PathHub.{hub_of, Fits, is_playable, may_come, CanTake, after_event};
+ghost use Rattle.path_hub.specs.PathHub.{hub_of, Fits, is_playable, may_come, asked_after, CanTake, after_event};
 
 use crate::reply::seat_reply;
 use crate::tell::tell_all;
@@ -65,6 +65,7 @@ impl PathHub {
             (hub_step schema.now (hub_of path.now self.old.now self.old.room self.old.conn) (event_of path.now item.now)).0) }
         ensures fits { OnOk result (Fits path.now self.new.room self.new.conn) }
         ensures now { OnOk result (self.new.now < 2 ^ 53) }
+        ensures asked { OnOk result (is_some self.new.room ≡ asked_after (is_some self.old.room) item.now) }
     {
         match item {
             Item::At(moment) => {
@@ -102,6 +103,7 @@ impl PathHub {
         ensures after { OnOk result (hub_of path.now self.new.now self.new.room self.new.conn ≡
             (hub_step schema.now (hub_of path.now self.old.now self.old.room self.old.conn) (event_of path.now (Ask conn))).0) }
         ensures fits { OnOk result (Fits path.now self.new.room self.new.conn) }
+        ensures some { OnOk result (is_some self.new.room ≡ true) }
     {
         let room = reserved_room(alloc, path, schema, self.now, steps)?;
         let reply = seat_reply(
@@ -135,6 +137,7 @@ impl PathHub {
         ensures after { OnOk result (hub_of path.now self.new.now self.new.room self.new.conn ≡
             (hub_step (path_schema path.now) (hub_of path.now self.old.now self.old.room self.old.conn) (event_of path.now (Open conn fresh))).0) }
         ensures fits { OnOk result (Fits path.now self.new.room self.new.conn) }
+        ensures some { is_some self.new.room ≡ is_some self.old.room }
     {
         if self.conn.is_some() || self.room.is_none() {
             return Ok(Seq::new(alloc));
@@ -162,6 +165,7 @@ impl PathHub {
         ensures after { OnOk result (hub_of path.now self.new.now self.new.room self.new.conn ≡
             (hub_step (path_schema path.now) (hub_of path.now self.old.now self.old.room self.old.conn) (event_of path.now (Acknowledge conn))).0) }
         ensures fits { OnOk result (Fits path.now self.new.room self.new.conn) }
+        ensures some { is_some self.new.room ≡ is_some self.old.room }
     {
         if self.conn != Some(conn) {
             return Ok(Seq::new(alloc));
@@ -191,6 +195,7 @@ impl PathHub {
             (room_stepped (hub_of path.now self.old.now self.old.room self.old.conn) path.now.room event.now).0) }
         ensures room { OnOk result (option_map (λ (h : Held). h.room) self.new.room ≡ after_event self.old.room event.now) }
         ensures conn { self.new.conn ≡ self.old.conn }
+        ensures some { is_some self.new.room ≡ is_some self.old.room }
     {
         match &mut self.room {
             Some(room) => {

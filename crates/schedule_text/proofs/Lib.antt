@@ -1,0 +1,6 @@
+pub mod Digits
+pub mod Forms
+pub mod Parts
+pub mod Pieces
+pub mod Prints
+pub mod TextLaws

@@ -1,0 +1,100 @@
+-- What is appended, part by part.
+use Rattle.std.proofs.Common.{◌≡◌, ℕ, ◌+◌, ◌/◌, ◌%◌, ◌<◌, ◌≤◌, true, eqb, List, [], ◌∷◌, ◌++◌, length, take, get_or, map, refl, sym, ap, ◌∙◌, arith, codes}
+use Rattle.std.specs.Io.{StartsWith}
+use Rattle.std.specs.List.{All, flat_map}
+use Rattle.std.proofs.lemmas.List.Elements.{All-head, All-tail}
+use Rattle.std.proofs.lemmas.Bool.{agree_below_at, eqb-true}
+use Rattle.std.proofs.lemmas.List.{take_at, take-take, append_assoc, take_all, take_more, append-nil, map-append, length-append, length-map, length-take-le}
+use Rattle.hex.specs.Hex.{encode_with, encode_lower, lower_digits}
+use Rattle.text_model.specs.Marks.{hex_digit, hex_byte, hex_word, line, lines, spaced}
+use Rattle.text_model.specs.Paths.{field_words, schema_lines}
+use Rattle.std.proofs.lemmas.List.Concat.{flat_map-append}
+
+-- what begins with a longer list begins with its front
+pub starts_after : (now old more : List ℕ) → StartsWith now (old ++ more) → StartsWith now old
+starts_after now old more h =
+    sym (take-take (length old) (length (old ++ more)) now (omega (arith, length-append old more)))
+    ∙ (ap (take (length old)) h ∙ take_at old more _ refl)
+
+pub starts_itself : (old : List ℕ) → StartsWith old old
+starts_itself old = take_all _ old (omega arith)
+
+pub starts_with_front : (now old more : List ℕ) → now ≡ old ++ more → StartsWith now old
+starts_with_front now old more e = ap (take (length old)) e ∙ take_at old more _ refl
+
+-- a digit of the table
+digit_of_table : (n : ℕ) → n < 16 → get_or lower_digits n 0 ≡ hex_digit n
+digit_of_table n h = eqb-true _ _ (agree_below_at (λ k. eqb (get_or lower_digits k 0) (hex_digit k)) (λ _. true) 16 n refl h)
+
+-- the digits of bytes, one byte after another
+pub encode_lower-flat_map : (bytes : List ℕ) → All (λ b. b < 256) bytes → encode_lower bytes ≡ flat_map hex_byte bytes
+unfolding encode_with
+encode_lower-flat_map [] h = refl
+encode_lower-flat_map (b ∷ bs) h =
+    let small : b < 256 = All-head (λ x. x < 256) b bs h in
+    let high : get_or lower_digits (b / 16) 0 ≡ hex_digit (b / 16) = digit_of_table (b / 16) (omega arith) in
+    let low : get_or lower_digits (b % 16) 0 ≡ hex_digit (b % 16) = digit_of_table (b % 16) (omega arith) in
+    rw (high, low, encode_lower-flat_map bs (All-tail (λ x. x < 256) b bs h))
+
+-- the word of bytes, where there are any
+pub encode_lower-hex_word : (bytes : List ℕ) → 0 < length bytes → All (λ b. b < 256) bytes → encode_lower bytes ≡ hex_word bytes
+encode_lower-hex_word [] some h = absurd (omega arith)
+encode_lower-hex_word (b ∷ bs) some h = encode_lower-flat_map (b ∷ bs) h
+
+-- one word more, behind others
+spaced_push : (w v : List ℕ) (ws : List (List ℕ)) → spaced ((w ∷ ws) ++ v ∷ []) ≡ spaced (w ∷ ws) ++ 32 ∷ v
+spaced_push w v [] = refl
+spaced_push w v (x ∷ ws) = ap (λ t. w ++ 32 ∷ t) (spaced_push x v ws) ∙ sym (append_assoc w (32 ∷ spaced (x ∷ ws)) (32 ∷ v))
+
+spaced_push_behind : (ws : List (List ℕ)) (v : List ℕ) → 0 < length ws → spaced (ws ++ v ∷ []) ≡ spaced ws ++ 32 ∷ v
+spaced_push_behind [] v h = absurd (omega arith)
+spaced_push_behind (w ∷ ws) v h = spaced_push w v ws
+
+map_take_more : {W : Type 0} (f : W → List ℕ) (ws : List W) (i : ℕ) (d : W) → i < length ws → map f (take (i + 1) ws) ≡ map f (take i ws) ++ f (get_or ws i d) ∷ []
+map_take_more f ws i d h = ap (map f) (take_more ws i d h) ∙ map-append f (take i ws) (get_or ws i d ∷ [])
+
+-- a word that is appended: the first, or one behind a space
+pub word_first : {W : Type 0} (f : W → List ℕ) (ws : List W) (i : ℕ) (d : W) (old mid now : List ℕ) → i < length ws → i ≡ 0 → mid ≡ old ++ spaced (map f (take i ws)) → now ≡ mid ++ f (get_or ws i d) → now ≡ old ++ spaced (map f (take (i + 1) ws))
+word_first f ws i d old mid now h e m n =
+    let none : spaced (map f (take i ws)) ≡ [] = ap (λ k. spaced (map f (take k ws))) e in
+    let one : spaced (map f (take (i + 1) ws)) ≡ f (get_or ws i d) =
+    ap spaced (map_take_more f ws i d h) ∙ ap (λ k. spaced (map f (take k ws) ++ f (get_or ws i d) ∷ [])) e in
+    n ∙ (ap (λ t. t ++ f (get_or ws i d)) (m ∙ (ap (λ t. old ++ t) none ∙ append-nil old)) ∙ ap (λ t. old ++ t) (sym one))
+
+pub word_more : {W : Type 0} (f : W → List ℕ) (ws : List W) (i : ℕ) (d : W) (old mid now : List ℕ) → i < length ws → 0 < i → mid ≡ (old ++ spaced (map f (take i ws))) ++ 32 ∷ [] → now ≡ mid ++ f (get_or ws i d) → now ≡ old ++ spaced (map f (take (i + 1) ws))
+word_more f ws i d old mid now h more m n =
+    let front = map f (take i ws) in
+    let word = f (get_or ws i d) in
+    let one : spaced (map f (take (i + 1) ws)) ≡ spaced front ++ 32 ∷ word =
+    ap spaced (map_take_more f ws i d h)
+    ∙ spaced_push_behind front word (omega (arith, length-map (take i ws) f, length-take-le i ws (omega arith))) in
+    n ∙ (ap (λ t. t ++ word) m ∙ (append_assoc (old ++ spaced front) (32 ∷ []) word ∙ (append_assoc old (spaced front) (32 ∷ word) ∙ ap (λ t. old ++ t) (sym one))))
+
+-- the schema lines, in three parts
+abbrev pub class_part : List ℕ → List ℕ
+class_part class = line (codes "class" ∷ class ∷ [])
+
+abbrev pub field_parts : List (List ℕ) → List ℕ
+field_parts fields = flat_map (λ f. line (field_words f)) fields
+
+abbrev pub root_part : List ℕ → List ℕ
+root_part class = line (codes "root" ∷ class ∷ [])
+
+flat_map_map : {A B : Type 0} (f : A → B) (g : B → List ℕ) (xs : List A) → flat_map g (map f xs) ≡ flat_map (λ x. g (f x)) xs
+flat_map_map f g [] = refl
+flat_map_map f g (x ∷ xs) = ap (λ t. g (f x) ++ t) (flat_map_map f g xs)
+
+pub schema_lines-parts : (class : List ℕ) (fields : List (List ℕ)) → lines (schema_lines class fields) ≡ class_part class ++ (field_parts fields ++ root_part class)
+schema_lines-parts class fields =
+    ap (λ t. class_part class ++ t)
+    (flat_map-append line (map field_words fields) ((codes "root" ∷ class ∷ []) ∷ [])
+    ∙ (ap (λ t. t ++ (root_part class ++ [])) (flat_map_map field_words line fields) ∙ ap (λ t. field_parts fields ++ t) (append-nil (root_part class))))
+
+pub schema_lines_done : (old mid now class : List ℕ) (fields items : List (List ℕ)) (i : ℕ) → items ≡ fields → length items ≤ i → mid ≡ old ++ (class_part class ++ field_parts (take i items)) → now ≡ mid ++ root_part class → now ≡ old ++ lines (schema_lines class fields)
+schema_lines_done old mid now class fields items i same all m n =
+    let whole : take i items ≡ fields = take_all i items all ∙ same in
+    let parts = class_part class ++ field_parts fields in
+    n
+    ∙ (ap (λ t. t ++ root_part class) (m ∙ ap (λ t. old ++ (class_part class ++ field_parts t)) whole)
+    ∙ (append_assoc old parts (root_part class)
+    ∙ ap (λ t. old ++ t) (append_assoc (class_part class) (field_parts fields) (root_part class) ∙ sym (schema_lines-parts class fields))))

@@ -1,0 +1,142 @@
+//! Words of a line, and how each is printed.
+ghost use Rattle.std.specs.Prelude.{◌≡◌, ◌++◌, ◌∷◌, [], ◌<◌, OnOk, OnErr};
+ghost use Rattle.std.specs.Fmt.{decimal};
+ghost use Rattle.std.specs.Io.{StartsWith};
+ghost use Rattle.text_model.specs.Decimals.{signed_text};
+ghost use Rattle.text_model.specs.Marks.{escape_digit, escaped, hex_word, line, quoted, spaced};
+ghost use Rattle.schedule_text.specs.Words.{word_text, word_texts};
+
+use lists::Memory;
+
+/// A word of a line, by its form.
+#[derive(Clone, Copy)]
+pub enum Word<'a> {
+    /// These bytes as they are.
+    Plain(&'a [u8]),
+    /// A decimal.
+    Number(u64),
+    /// A decimal, behind `-` where it is below 0.
+    Signed(i32),
+    /// Bytes in hex, or `-` where there are none.
+    Hex(&'a [u8]),
+    /// A quoted text with its escapes.
+    Quoted(&'a [u8]),
+}
+
+/// Appends a decimal. An `Err` may leave some of its digits.
+fn append_decimal(out: &mut Vec<u8>, number: u64) -> Result<(), Memory>
+    ensures ok { OnOk result (out.new.items ≡ out.old.items ++ decimal number) }
+    ensures err { OnErr result (StartsWith out.new.items out.old.items) }
+{
+    if number >= 10 {
+        append_decimal(out, number / 10)?;
+    }
+    out.push(b'0' + (number % 10) as u8)?;
+    Ok(())
+}
+
+/// Appends a decimal, with `-` before it where the number is below 0. An `Err` may leave a part of it.
+fn append_signed(out: &mut Vec<u8>, number: i32) -> Result<(), Memory>
+    ensures ok { OnOk result (out.new.items ≡ out.old.items ++ signed_text number) }
+    ensures err { OnErr result (StartsWith out.new.items out.old.items) }
+{
+    if number < 0 {
+        out.push(b'-')?;
+    }
+    append_decimal(out, u64::from(number.unsigned_abs()))
+}
+
+/// Appends bytes in hex, by way of a text of its own.
+fn append_hex(out: &mut Vec<u8>, bytes: &[u8]) -> Result<(), Memory>
+    ensures ok { OnOk result (out.new.items ≡ out.old.items ++ hex_word bytes.now) }
+    ensures err { OnErr result (out.new.items ≡ out.old.items) }
+{
+    if bytes.is_empty() {
+        out.push(b'-')?;
+        return Ok(());
+    }
+    let digits = hex::encode(*out.allocator(), bytes)?;
+    out.extend_from_slice(digits.as_bytes())?;
+    Ok(())
+}
+
+/// The hex digit of a number below 16 in an escape.
+fn upper_digit(number: u8) -> u8
+    requires { number < 16 }
+    ensures { result ≡ escape_digit number }
+{
+    if number < 10 {
+        b'0' + number
+    } else {
+        b'A' + (number - 10)
+    }
+}
+
+/// Appends a byte of a text, escaped where it has to be.
+fn append_escaped(out: &mut Vec<u8>, byte: u8) -> Result<(), Memory>
+    ensures ok { OnOk result (out.new.items ≡ out.old.items ++ escaped byte) }
+    ensures err { OnErr result (out.new.items ≡ out.old.items) }
+{
+    if byte.is_ascii_graphic() && byte != b'%' {
+        out.push(byte)?;
+        return Ok(());
+    }
+    out.extend_from_slice(&[b'%', upper_digit(byte / 16), upper_digit(byte % 16)])?;
+    Ok(())
+}
+
+/// Appends a quoted word. An `Err` may leave a part of it.
+#[tactic(auto, using(crate::proofs::Prints::starts_after, crate::proofs::Prints::starts_with_front))]
+fn append_quoted(out: &mut Vec<u8>, text: &[u8]) -> Result<(), Memory>
+    ensures ok { OnOk result (out.new.items ≡ out.old.items ++ quoted text.now) }
+    ensures err { OnErr result (StartsWith out.new.items out.old.items) }
+{
+    out.push(b'\'')?;
+    for byte in text {
+        append_escaped(out, *byte)?;
+    }
+    Ok(())
+}
+
+/// Appends a word. An `Err` may leave a part of it.
+fn append_word(out: &mut Vec<u8>, word: Word) -> Result<(), Memory>
+    ensures ok { OnOk result (out.new.items ≡ out.old.items ++ word_text word.entry) }
+    ensures err { OnErr result (StartsWith out.new.items out.old.items) }
+{
+    match word {
+        Word::Plain(text) => Ok(out.extend_from_slice(text)?),
+        Word::Number(number) => append_decimal(out, number),
+        Word::Signed(number) => append_signed(out, number),
+        Word::Hex(bytes) => append_hex(out, bytes),
+        Word::Quoted(text) => append_quoted(out, text),
+    }
+}
+
+/// Appends a line. An `Err` may leave a part of it.
+#[tactic(auto, using(crate::proofs::Prints::starts_after, crate::proofs::Prints::starts_with_front))]
+fn append_words(out: &mut Vec<u8>, words: &[Word]) -> Result<(), Memory>
+    ensures ok { OnOk result (out.new.items ≡ out.old.items ++ line (word_texts words.now)) }
+    ensures err { OnErr result (StartsWith out.new.items out.old.items) }
+{
+    for (index, word) in words.iter().enumerate() {
+        if index > 0 {
+            out.push(b' ')?;
+        }
+        append_word(out, *word)?;
+    }
+    out.push(b'\n')?;
+    Ok(())
+}
+
+/// Appends a line. An `Err` leaves `out` as it was.
+pub fn append_line(out: &mut Vec<u8>, words: &[Word]) -> Result<(), Memory>
+    ensures ok { OnOk result (out.new.items ≡ out.old.items ++ line (word_texts words.now)) }
+    ensures err { OnErr result (out.new.items ≡ out.old.items) }
+{
+    let before = out.len();
+    let outcome = append_words(out, words);
+    if outcome.is_err() {
+        out.truncate(before);
+    }
+    outcome
+}
