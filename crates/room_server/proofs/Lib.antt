@@ -1,0 +1,3 @@
+pub mod WriteLaws
+pub mod PlayLaws
+pub mod EndingLaws

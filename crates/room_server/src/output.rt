@@ -1,0 +1,119 @@
+//! Writing lines to a sink.
+ghost use Rattle.std.specs.Prelude.{◌≡◌, [], ◌∷◌, IfOk, codes};
+ghost use Rattle.std.specs.List.{flat_map};
+ghost use Rattle.text_model.specs.Marks.{line, lines};
+ghost use Rattle.text_model.specs.Outputs.{out_line};
+ghost use Rattle.text_model.specs.Paths.{schema_lines};
+ghost use Rattle.room_server.specs.Answers.{fault_line};
+ghost use Rattle.room_server.specs.Endings.{Writes, HasWriteCause};
+ghost use Rattle.room_server.specs.Words.{usage_line};
+ghost use Rattle.room_server.specs.declared.output.WriteFault.TheVariants as fault;
+
+use hub_model::HubOuts;
+use lists::Memory;
+use outside::{Failed, Sink};
+use schedule_text::{print_end, print_fault, print_out, print_schema_lines};
+use std::alloc::Global;
+use streams::write_all;
+use text_model::FirstPath;
+use thiserror::Error;
+
+/// The line that says how the program is used.
+const USAGE: &[u8] = b"usage: replay | serve PORT COUNT | view CONN | make SEED ROUNDS\n";
+
+/// Why lines couldn't be written.
+#[derive(Clone, Copy, Debug, PartialEq, Eq, Error)]
+pub enum WriteFault {
+    #[error("the sink failed")]
+    Failed,
+    #[error("out of memory")]
+    Memory,
+}
+
+impl From<Failed> for WriteFault {
+    ghost from_gives = { λ _ given. given ≡ fault.Failed };
+
+    fn from(_: Failed) -> Self {
+        WriteFault::Failed
+    }
+}
+
+impl From<Memory> for WriteFault {
+    ghost from_gives = { λ _ given. given ≡ fault.Memory };
+
+    fn from(_: Memory) -> Self {
+        WriteFault::Memory
+    }
+}
+
+/// Writes the line that says how the program is used.
+pub fn write_usage<K: Sink>(sink: &mut K) -> Result<(), WriteFault>
+    ensures writes { Writes (K.taken sink.old) (K.taken sink.new) usage_line result }
+    ensures cause { HasWriteCause (K.faults sink.old) (K.faults sink.new) result }
+{
+    write_all(sink, USAGE)?;
+    Ok(())
+}
+
+/// Writes the line of a fault: the number of the line where it stands, and its word.
+pub fn write_refusal<K: Sink>(
+    alloc: Global,
+    sink: &mut K,
+    number: u32,
+    word: &str,
+) -> Result<(), WriteFault>
+    ensures writes { Writes (K.taken sink.old) (K.taken sink.new) (fault_line number word.now) result }
+    ensures cause { HasWriteCause (K.faults sink.old) (K.faults sink.new) result }
+{
+    let mut text = Vec::new(alloc);
+    print_fault(&mut text, number, word)?;
+    write_all(sink, &text)?;
+    Ok(())
+}
+
+/// Writes the schema lines of a schedule.
+pub fn write_schema<K: Sink>(
+    alloc: Global,
+    sink: &mut K,
+    path: &FirstPath,
+) -> Result<(), WriteFault>
+    ensures writes { Writes (K.taken sink.old) (K.taken sink.new) (lines (schema_lines path.now.class path.now.fields)) result }
+    ensures cause { HasWriteCause (K.faults sink.old) (K.faults sink.new) result }
+{
+    let mut text = Vec::new(alloc);
+    print_schema_lines(&mut text, &path.class, &path.fields)?;
+    write_all(sink, &text)?;
+    Ok(())
+}
+
+/// Writes the lines of the outputs of one event.
+pub fn write_outs<K: Sink>(alloc: Global, sink: &mut K, outs: &HubOuts) -> Result<(), WriteFault>
+    ensures writes { Writes (K.taken sink.old) (K.taken sink.new) (flat_map out_line outs.now) result }
+    ensures cause { HasWriteCause (K.faults sink.old) (K.faults sink.new) result }
+{
+    let text = out_lines(alloc, outs)?;
+    write_all(sink, &text)?;
+    Ok(())
+}
+
+// The lines of outputs.
+fn out_lines(alloc: Global, outs: &HubOuts) -> Result<Vec<u8>, Memory>
+    ensures { IfOk result (λ text. text.items ≡ flat_map out_line outs.now) }
+{
+    let mut text = Vec::new(alloc);
+    for out in outs.as_slice() {
+        print_out(&mut text, out)?;
+    }
+    Ok(text)
+}
+
+/// Writes the line `end`.
+pub fn write_end<K: Sink>(alloc: Global, sink: &mut K) -> Result<(), WriteFault>
+    ensures writes { Writes (K.taken sink.old) (K.taken sink.new) (line (codes "end" ∷ [])) result }
+    ensures cause { HasWriteCause (K.faults sink.old) (K.faults sink.new) result }
+{
+    let mut text = Vec::new(alloc);
+    print_end(&mut text)?;
+    write_all(sink, &text)?;
+    Ok(())
+}

@@ -1,0 +1,89 @@
+//! The one call of the program.
+ghost use Rattle.std.specs.Prelude.{◌≡◌, ◌⊎◌, ◌≤◌, ◌+◌, ◌^◌, ℕ, List, [], ◌∷◌, length, Contains, None, Some, IfSome};
+ghost use Rattle.outside.specs.Faults.{Rose};
+ghost use Rattle.streams.specs.Reads.{Reads, Takes, TakesFront};
+ghost use Rattle.text_model.specs.Paths.{Path, IsTextOf};
+ghost use Rattle.room_server.specs.Answers.{output_for};
+ghost use Rattle.room_server.specs.Endings.{status_of, IsReplayed, IsRefused, IsNoSchedule, IsQuiet, IsEnded};
+ghost use Rattle.room_server.specs.Words.{task_of, usage_line};
+ghost use Rattle.room_server.specs.declared.ending.Ending.TheVariants as ending;
+ghost use Rattle.room_server.specs.declared.task.Task.TheVariants.{Replay};
+
+use crate::ending::Ending;
+use crate::output::write_usage;
+use crate::replay::{ended, replay};
+use crate::task::{Task, read_words};
+use outside::{Clock, Ids, Sink, Source, Wire};
+use room_model::Words;
+use std::alloc::Global;
+
+/// Does what the words behind the program's name call for, and answers the status of the process:
+/// 0 all was read and written, 2 the words are no command's, 3 the text isn't of its form, 4 the source
+/// failed, 5 the sink failed, 7 want of memory.
+pub fn run<S: Source, K: Sink, W: Wire, C: Clock, I: Ids>(
+    alloc: Global,
+    words: &Words,
+    source: &mut S,
+    sink: &mut K,
+    wire: &mut W,
+    clock: &mut C,
+    ids: &mut I,
+) -> u8
+    ensures status { Contains (0 ∷ 2 ∷ 3 ∷ 4 ∷ 5 ∷ 7 ∷ []) result }
+
+    // 0: the source was read to its end, its bytes are the text of a schedule, and the sink took exactly what is printed of it.
+    ensures done { result ≡ 0 → (task_of words.now ≡ Some Replay)
+        × IsReplayed (S.left source.old) (S.left source.new) (K.taken sink.old) (K.taken sink.new) }
+
+    // 2: the words are no command's, and the sink took exactly the usage line.
+    ensures usage { result ≡ 2 → (task_of words.now ≡ None) × Takes (K.taken sink.old) (K.taken sink.new) usage_line }
+
+    // 3: the text is too long or has a fault, and the sink took exactly the line of the first fault.
+    ensures refused { result ≡ 3 → (task_of words.now ≡ Some Replay)
+        × IsRefused (S.left source.old) (S.left source.new) (K.taken sink.old) (K.taken sink.new) }
+
+    // 4: the source's count of faults rose in this call, and the sink took nothing.
+    ensures read_cause { result ≡ 4 → Rose (S.faults source.old) (S.faults source.new) × (K.taken sink.new ≡ K.taken sink.old) }
+
+    // 5: the sink's count of faults rose in this call.
+    ensures write_cause { result ≡ 5 → Rose (K.faults sink.old) (K.faults sink.new) }
+
+    // Whatever the status is, the sink took a front of what the words and the text call for.
+    ensures front { (text : List ℕ) × IfSome (S.left source.old) (λ all. all ≡ text)
+        × TakesFront (K.taken sink.old) (K.taken sink.new) (output_for (task_of words.now) text) }
+
+    // Where no count rose and memory didn't run out, the words and the text decide the status.
+    ensures usage_always { task_of words.now ≡ None → (Rose (K.faults sink.old) (K.faults sink.new) → ⊥) → (result ≡ 2) ⊎ (result ≡ 7) }
+    ensures done_always { task_of words.now ≡ Some Replay → IfSome (S.left source.old) (λ text. (parts : Path) → IsTextOf text parts → length text ≤ 2 ^ 24
+        → IsQuiet (S.faults source.old) (S.faults source.new) (K.faults sink.old) (K.faults sink.new) → (result ≡ 0) ⊎ (result ≡ 7)) }
+    ensures refused_always { task_of words.now ≡ Some Replay → IfSome (S.left source.old) (λ text. IsNoSchedule text
+        → IsQuiet (S.faults source.old) (S.faults source.new) (K.faults sink.old) (K.faults sink.new) → (result ≡ 3) ⊎ (result ≡ 7)) }
+
+    // At most 16 MiB and one byte are read.
+    ensures bound { (bytes : List ℕ) × (length bytes ≤ 2 ^ 24 + 1) × Reads (S.left source.old) (S.left source.new) bytes }
+
+    // No count of faults falls, and the wire, the clock and the ids are as they were.
+    ensures read_later { S.faults source.old ≤ S.faults source.new }
+    ensures write_later { K.faults sink.old ≤ K.faults sink.new }
+    ensures wire { wire.new ≡ wire.old }
+    ensures clock { clock.new ≡ clock.old }
+    ensures ids { ids.new ≡ ids.old }
+{
+    answer(alloc, words, source, sink).status()
+}
+
+/// Does what the words call for.
+fn answer<S: Source, K: Sink>(alloc: Global, words: &Words, source: &mut S, sink: &mut K) -> Ending
+    ensures ends { IsEnded (task_of words.now) (S.left source.old) (S.left source.new) (K.taken sink.old) (K.taken sink.new) result }
+    ensures bound { (bytes : List ℕ) × (length bytes ≤ 2 ^ 24 + 1) × Reads (S.left source.old) (S.left source.new) bytes }
+    ensures read_later { S.faults source.old ≤ S.faults source.new }
+    ensures read_cause { result ≡ ending.ReadFailed → Rose (S.faults source.old) (S.faults source.new) }
+    ensures write_later { K.faults sink.old ≤ K.faults sink.new }
+    ensures write_cause { result ≡ ending.WriteFailed → Rose (K.faults sink.old) (K.faults sink.new) }
+{
+    match read_words(words) {
+        Some(Task::Replay) => replay(alloc, source, sink),
+        Some(Task::Serve { .. } | Task::View { .. } | Task::Make { .. }) => unreachable!(),
+        None => ended(write_usage(sink), Ending::Usage),
+    }
+}
