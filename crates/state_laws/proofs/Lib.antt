@@ -1,0 +1,13 @@
+pub mod Joins
+pub mod Passing
+pub mod Numbers
+pub mod ReachedLaws
+pub mod FreedLaw
+pub mod FreedParts
+pub mod Tests
+pub mod ShownRows
+pub mod PermittedLaws
+pub mod Fitting
+pub mod FittingRows
+pub mod RowsOf
+pub mod SharedWithin

@@ -1,0 +1,2 @@
+//! Laws of plain rows: what is reached, and what freeing leaves.
+#![tactic(auto)]

@@ -1,0 +1,97 @@
+-- Rows of a schema are well formed.
+use Rattle.std.proofs.Common.{◌≡◌, ◌≤◌, ◌<◌, ℕ, suc, Bool, true, false, not, ◌&&◌, ◌||◌, ◌==◌, cond, List, [], ◌∷◌, map, Option, Some, None, refl, sym, ap, ◌∙◌, arith, ltb-true}
+use Rattle.std.specs.Prelude.{is_some, option_and_then}
+use Rattle.std.specs.List.{list_all}
+use Rattle.std.specs.Option.{option_map}
+use Rattle.std.proofs.lemmas.Bool.{and_parts}
+use Rattle.lists.specs.Rising.{RisesFrom, find}
+use Rattle.schema_model.specs.Classes.{Schema, home_field, item_of}
+use Rattle.schema_model.specs.declared.class.FieldDecl.{FieldDecl}
+use Rattle.schema_model.specs.declared.class.Item.{Item}
+use Rattle.schema_model.specs.declared.class.Item.TheVariants as item
+use Rattle.schema_model.specs.declared.place.Home.{Home}
+use Rattle.schema_model.specs.declared.value.Value.{Value}
+use Rattle.schema_model.specs.declared.value.Value.TheVariants as value
+use Rattle.state_model.specs.declared.row.Row.{Row}
+use Rattle.state_model.specs.declared.row.Row.TheVariants.{Struct, Map, Array, Set}
+use Rattle.state_model.specs.declared.row.RowEntry.{RowEntry}
+use Rattle.state_model.specs.declared.row.FieldValue.{FieldValue}
+use Rattle.state_model.specs.declared.row.MapItem.{MapItem}
+use Rattle.state_model.specs.declared.row.SetItem.{SetItem}
+use Rattle.state_model.specs.Values.{is_link}
+use Rattle.state_model.specs.Rows.{number_of, row_at}
+use Rattle.state_model.specs.Places.{AnItem, is_filtered, holds_instances, item_wants, instance_class}
+use Rattle.state_model.specs.Sound.{rise, differ, has_kind, places_fit, fits_place, fits_wanted, are_rows_of}
+use Rattle.state_laws.proofs.Numbers.{row_found}
+use Rattle.wire_laws.proofs.Forms.{IsFormed}
+
+-- ---- lists
+
+rises_behind : {E : Type 0} (key : E → ℕ) (e : E) (es : List E) (low : ℕ) → rise (map key (e ∷ es)) ≡ true → low ≤ key e → RisesFrom key low (e ∷ es)
+rises_behind key e [] low h above = (above, tt)
+rises_behind key e (x ∷ es) low h above =
+    let parts = and_parts _ _ h in
+    let below : key e < key x = ltb-true (key e) (key x) parts.0 in
+    (above, rises_behind key x es (suc (key e)) parts.1 (omega arith))
+
+-- what rises by test rises
+pub rises_of : {E : Type 0} (key : E → ℕ) (es : List E) → rise (map key es) ≡ true → RisesFrom key 0 es
+rises_of key [] h = tt
+rises_of key (e ∷ es) h = rises_behind key e es 0 h (omega arith)
+
+-- what all pass, one that is found passes
+pub all_found : {E : Type 0} (key : E → ℕ) (p : E → Bool) (es : List E) (k : ℕ) (e : E) → list_all p es ≡ true → find key k es ≡ Some e → p e ≡ true
+all_found key p [] k e h f = cc
+all_found key p (x ∷ es) k e h f =
+    let parts = and_parts _ _ h in
+    let go : (b : Bool) → (key x == k) ≡ b → cond b (Some x) (find key k es) ≡ Some e → p e ≡ true = elim [
+      | true ↦ λ t g. let same : x ≡ e = cc in ap p (sym same) ∙ parts.0
+      | false ↦ λ t g. all_found key p es k e parts.1 g
+    ] in go (key x == k) refl f
+
+all_narrower : {E : Type 0} (p q : E → Bool) (es : List E) → ((e : E) → p e ≡ true → q e ≡ true) → list_all p es ≡ true → list_all q es ≡ true
+all_narrower p q [] f h = refl
+all_narrower p q (e ∷ es) f h = let parts = and_parts _ _ h in rw (f e parts.0) (all_narrower p q es f parts.1)
+
+-- ---- a filtered array holds links
+
+item_is_link : (schema : Schema) (rows : List RowEntry) (i : Item) (v : Value) → is_some (instance_class i) ≡ true → fits_wanted schema rows (AnItem i) v ≡ true → is_link v ≡ true
+item_is_link schema rows (item.Scalar k) v h fit = cc
+item_is_link schema rows (item.Class c) (value.Link n) h fit = refl
+item_is_link schema rows (item.Class c) (value.Whole z) h fit = fit
+item_is_link schema rows (item.Class c) (value.Str t) h fit = fit
+item_is_link schema rows (item.Class c) (value.Truth b) h fit = fit
+
+instances_are_links : (schema : Schema) (rows : List RowEntry) (o : Option FieldDecl) (v : Value)
+    → is_some (option_and_then (λ (f : FieldDecl). instance_class (item_of f.shape)) o) ≡ true
+    → fits_place schema rows v (option_map (λ (f : FieldDecl). AnItem (item_of f.shape)) o) ≡ true → is_link v ≡ true
+instances_are_links schema rows None v h fit = cc
+instances_are_links schema rows (Some f) v h fit = item_is_link schema rows (item_of f.shape) v h fit
+
+item_links : (schema : Schema) (rows : List RowEntry) (home : Home) (v : Value) → holds_instances schema home ≡ true → fits_place schema rows v (item_wants schema home) ≡ true → is_link v ≡ true
+item_links schema rows home v h fit = instances_are_links schema rows (home_field schema home) v h fit
+
+-- ---- rows
+
+differs_of : (filtered d : Bool) → filtered ≡ true → (not filtered || d) ≡ true → d ≡ true
+differs_of true d f h = h
+differs_of false d f h = cc
+
+formed_place : (schema : Schema) (rows : List RowEntry) (r : Row) → places_fit schema rows r ≡ true → IsFormed schema r
+formed_place schema rows (Struct class fields) h = rises_of (λ (f : FieldValue). f.field) fields (and_parts _ _ h).0
+formed_place schema rows (Map home items) h =
+    let parts = and_parts _ _ (and_parts _ _ h).0 in (rises_of (λ (i : MapItem). i.number) items parts.0, parts.1)
+formed_place schema rows (Array home values) h = λ filtered.
+    let parts = and_parts _ _ h in
+    let instances = (and_parts _ _ filtered).1 in (
+      differs_of (is_filtered schema home) (differ values) filtered parts.0,
+      all_narrower (λ v. fits_place schema rows v (item_wants schema home)) is_link values (λ v fit. item_links schema rows home v instances fit) parts.1,
+    )
+formed_place schema rows (Set home items) h = rises_of (λ (i : SetItem). i.number) items (and_parts _ _ h).0
+
+-- each row of rows of a schema is well formed
+pub rows_formed : (schema : Schema) (rows : List RowEntry) (n : ℕ) (r : Row) → are_rows_of schema rows ≡ true → row_at rows n ≡ Some r → IsFormed schema r
+rows_formed schema rows n r h is =
+    let all = (and_parts _ _ h).1 in
+    let one = all_found number_of (λ (e : RowEntry). has_kind schema e.row && places_fit schema rows e.row) rows n _ all (row_found rows n r is) in
+    formed_place schema rows r (and_parts _ _ one).1

@@ -1,0 +1,2 @@
+pub mod PatchLaw
+pub mod FrameLaw
