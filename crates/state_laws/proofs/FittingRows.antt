@@ -21,7 +21,8 @@ use Rattle.state_model.specs.Reached.{is_among}
 use Rattle.state_model.specs.Sound.{rise, differ, keys_differ, fits_place, places_fit}
 use Rattle.state_model.specs.Shown.{shows_field, shows_item, shown_row}
 use Rattle.state_laws.proofs.Passing.{list_any-flat_map}
-use Rattle.state_laws.proofs.Tests.{both_true, both, list_any-map, list_any-made, list_any_filtered, list_all_filtered, StandsIn, list_all_wider, all_and_any}
+use Rattle.std.proofs.lemmas.Bool.{and_parts, and_from}
+use Rattle.state_laws.proofs.Tests.{list_any-map, list_any-made, list_any_filtered, list_all_filtered, StandsIn, list_all_wider, all_and_any}
 use Rattle.state_laws.proofs.ShownRows.{holds}
 use Rattle.state_laws.proofs.Fitting.{OneKind, fits_elsewhere, fits_live}
 
@@ -32,7 +33,7 @@ module _ {E : Type 0} (key : E → ℕ) where
   rise_behind : (x : E) (xs : List E) → rise (map key (x ∷ xs)) ≡ true → RisesFrom key (suc (key x)) xs
   rise_behind x [] h = tt
   rise_behind x (y ∷ ys) h =
-      let two = both_true (nat_lt (key x) (key y)) (rise (map key (y ∷ ys))) h in
+      let two = and_parts (nat_lt (key x) (key y)) (rise (map key (y ∷ ys))) h in
       let less : key x < key y = grind (arith, nat_tests, two.0) in
       (omega (arith, less), rise_behind y ys two.1)
 
@@ -47,7 +48,7 @@ module _ {E : Type 0} (key : E → ℕ) where
   rise_where low (x ∷ []) r = refl
   rise_where low (x ∷ y ∷ ys) r =
       let less : nat_lt (key x) (key y) ≡ true = grind (arith, nat_tests, r.1.0) in
-      both (nat_lt (key x) (key y)) (rise (map key (y ∷ ys))) less (rise_where (suc (key x)) (y ∷ ys) r.1)
+      and_from (nat_lt (key x) (key y)) (rise (map key (y ∷ ys))) less (rise_where (suc (key x)) (y ∷ ys) r.1)
 
   -- keys that rise by the test do so when filtered
   rise_filtered : (q : E → Bool) (xs : List E) → rise (map key xs) ≡ true → rise (map key (filter q xs)) ≡ true
@@ -75,28 +76,28 @@ pub shown_fits : (schema : Schema) (rows : List RowEntry) (M : List Pair) (who :
 shown_fits schema rows M who (Struct class fields) h =
     let q = shows_field schema M who class in
     let p = λ (f : FieldValue). fits_place schema rows f.value (field_wants schema class f.field) in
-    let two = both_true (rise (map (λ (f : FieldValue). f.field) fields)) (list_all p fields) h in
-    both (rise (map (λ (f : FieldValue). f.field) (filter q fields))) (list_all p (filter q fields)) (rise_filtered (λ (f : FieldValue). f.field) q fields two.0) (list_all_filtered p q fields two.1)
+    let two = and_parts (rise (map (λ (f : FieldValue). f.field) fields)) (list_all p fields) h in
+    and_from (rise (map (λ (f : FieldValue). f.field) (filter q fields))) (list_all p (filter q fields)) (rise_filtered (λ (f : FieldValue). f.field) q fields two.0) (list_all_filtered p q fields two.1)
 shown_fits schema rows M who (Map home items) h =
     let q = λ (i : MapItem). shows_item schema M who home i.value in
     let p = λ (i : MapItem). fits_place schema rows i.value (item_wants schema home) in
     let number = λ (i : MapItem). i.number in
     let key = λ (i : MapItem). i.key in
-    let two = both_true (rise (map number items) && keys_differ (map key items)) (list_all p items) h in
-    let rest = both_true (rise (map number items)) (keys_differ (map key items)) two.0 in
-    both (rise (map number (filter q items)) && keys_differ (map key (filter q items))) (list_all p (filter q items))
-    (both (rise (map number (filter q items))) (keys_differ (map key (filter q items))) (rise_filtered number q items rest.0) (keys_filtered key q items rest.1))
+    let two = and_parts (rise (map number items) && keys_differ (map key items)) (list_all p items) h in
+    let rest = and_parts (rise (map number items)) (keys_differ (map key items)) two.0 in
+    and_from (rise (map number (filter q items)) && keys_differ (map key (filter q items))) (list_all p (filter q items))
+    (and_from (rise (map number (filter q items))) (keys_differ (map key (filter q items))) (rise_filtered number q items rest.0) (keys_filtered key q items rest.1))
     (list_all_filtered p q items two.1)
 shown_fits schema rows M who (Array home values) h =
     let q = shows_item schema M who home in
     let p = λ (v : Value). fits_place schema rows v (item_wants schema home) in
-    let two = both_true (not (is_filtered schema home) || differ values) (list_all p values) h in
-    both (not (is_filtered schema home) || differ (filter q values)) (list_all p (filter q values)) (unfiltered_or (is_filtered schema home) q values two.0) (list_all_filtered p q values two.1)
+    let two = and_parts (not (is_filtered schema home) || differ values) (list_all p values) h in
+    and_from (not (is_filtered schema home) || differ (filter q values)) (list_all p (filter q values)) (unfiltered_or (is_filtered schema home) q values two.0) (list_all_filtered p q values two.1)
 shown_fits schema rows M who (Set home items) h =
     let q = λ (i : SetItem). shows_item schema M who home i.value in
     let p = λ (i : SetItem). fits_place schema rows i.value (item_wants schema home) in
-    let two = both_true (rise (map (λ (i : SetItem). i.number) items)) (list_all p items) h in
-    both (rise (map (λ (i : SetItem). i.number) (filter q items))) (list_all p (filter q items)) (rise_filtered (λ (i : SetItem). i.number) q items two.0) (list_all_filtered p q items two.1)
+    let two = and_parts (rise (map (λ (i : SetItem). i.number) items)) (list_all p items) h in
+    and_from (rise (map (λ (i : SetItem). i.number) (filter q items))) (list_all p (filter q items)) (rise_filtered (λ (i : SetItem). i.number) q items two.0) (list_all_filtered p q items two.1)
 
 -- other rows
 
@@ -115,27 +116,27 @@ pub places_fit_elsewhere : (schema : Schema) (rows some : List RowEntry) (r : Ro
 places_fit_elsewhere schema rows some (Struct class fields) k h =
     let p = λ (rs : List RowEntry) (f : FieldValue). fits_place schema rs f.value (field_wants schema class f.field) in
     let value = λ (f : FieldValue). f.value in
-    let two = both_true (rise (map (λ (f : FieldValue). f.field) fields)) (list_all (p rows) fields) h in
-    both (rise (map (λ (f : FieldValue). f.field) fields)) (list_all (p some) fields) two.0
+    let two = and_parts (rise (map (λ (f : FieldValue). f.field) fields)) (list_all (p rows) fields) h in
+    and_from (rise (map (λ (f : FieldValue). f.field) fields)) (list_all (p some) fields) two.0
     (places_elsewhere value (p rows) (p some) rows some fields (λ f. fits_elsewhere schema rows some f.value (field_wants schema class f.field)) (λ m t. k m (list_any-made (λ n. n == m) held_by value fields ∙ t)) two.1)
 places_fit_elsewhere schema rows some (Map home items) k h =
     let p = λ (rs : List RowEntry) (i : MapItem). fits_place schema rs i.value (item_wants schema home) in
     let value = λ (i : MapItem). i.value in
     let keyed = rise (map (λ (i : MapItem). i.number) items) && keys_differ (map (λ (i : MapItem). i.key) items) in
-    let two = both_true keyed (list_all (p rows) items) h in
-    both keyed (list_all (p some) items) two.0
+    let two = and_parts keyed (list_all (p rows) items) h in
+    and_from keyed (list_all (p some) items) two.0
     (places_elsewhere value (p rows) (p some) rows some items (λ i. fits_elsewhere schema rows some i.value (item_wants schema home)) (λ m t. k m (list_any-made (λ n. n == m) held_by value items ∙ t)) two.1)
 places_fit_elsewhere schema rows some (Array home values) k h =
     let p = λ (rs : List RowEntry) (v : Value). fits_place schema rs v (item_wants schema home) in
     let value = λ (v : Value). v in
-    let two = both_true (not (is_filtered schema home) || differ values) (list_all (p rows) values) h in
-    both (not (is_filtered schema home) || differ values) (list_all (p some) values) two.0
+    let two = and_parts (not (is_filtered schema home) || differ values) (list_all (p rows) values) h in
+    and_from (not (is_filtered schema home) || differ values) (list_all (p some) values) two.0
     (places_elsewhere value (p rows) (p some) rows some values (λ v. fits_elsewhere schema rows some v (item_wants schema home)) (λ m t. k m (list_any-flat_map (λ n. n == m) held_by values ∙ t)) two.1)
 places_fit_elsewhere schema rows some (Set home items) k h =
     let p = λ (rs : List RowEntry) (i : SetItem). fits_place schema rs i.value (item_wants schema home) in
     let value = λ (i : SetItem). i.value in
-    let two = both_true (rise (map (λ (i : SetItem). i.number) items)) (list_all (p rows) items) h in
-    both (rise (map (λ (i : SetItem). i.number) items)) (list_all (p some) items) two.0
+    let two = and_parts (rise (map (λ (i : SetItem). i.number) items)) (list_all (p rows) items) h in
+    and_from (rise (map (λ (i : SetItem). i.number) items)) (list_all (p some) items) two.0
     (places_elsewhere value (p rows) (p some) rows some items (λ i. fits_elsewhere schema rows some i.value (item_wants schema home)) (λ m t. k m (list_any-made (λ n. n == m) held_by value items ∙ t)) two.1)
 
 -- what a row whose places fit holds is there
@@ -143,19 +144,19 @@ pub held_live : (schema : Schema) (rows : List RowEntry) (m : ℕ) (r : Row) →
 held_live schema rows m (Struct class fields) h t =
     let p = λ (f : FieldValue). fits_place schema rows f.value (field_wants schema class f.field) in
     let value = λ (f : FieldValue). f.value in
-    let two = both_true (rise (map (λ (f : FieldValue). f.field) fields)) (list_all p fields) h in
+    let two = and_parts (rise (map (λ (f : FieldValue). f.field) fields)) (list_all p fields) h in
     all_and_any p (λ f. holds m f.value) fields (is_live rows m) (λ f. fits_live schema rows m f.value (field_wants schema class f.field)) two.1 (sym (list_any-made (λ n. n == m) held_by value fields) ∙ t)
 held_live schema rows m (Map home items) h t =
     let p = λ (i : MapItem). fits_place schema rows i.value (item_wants schema home) in
     let value = λ (i : MapItem). i.value in
-    let two = both_true (rise (map (λ (i : MapItem). i.number) items) && keys_differ (map (λ (i : MapItem). i.key) items)) (list_all p items) h in
+    let two = and_parts (rise (map (λ (i : MapItem). i.number) items) && keys_differ (map (λ (i : MapItem). i.key) items)) (list_all p items) h in
     all_and_any p (λ i. holds m i.value) items (is_live rows m) (λ i. fits_live schema rows m i.value (item_wants schema home)) two.1 (sym (list_any-made (λ n. n == m) held_by value items) ∙ t)
 held_live schema rows m (Array home values) h t =
     let p = λ (v : Value). fits_place schema rows v (item_wants schema home) in
-    let two = both_true (not (is_filtered schema home) || differ values) (list_all p values) h in
+    let two = and_parts (not (is_filtered schema home) || differ values) (list_all p values) h in
     all_and_any p (holds m) values (is_live rows m) (λ v. fits_live schema rows m v (item_wants schema home)) two.1 (sym (list_any-flat_map (λ n. n == m) held_by values) ∙ t)
 held_live schema rows m (Set home items) h t =
     let p = λ (i : SetItem). fits_place schema rows i.value (item_wants schema home) in
     let value = λ (i : SetItem). i.value in
-    let two = both_true (rise (map (λ (i : SetItem). i.number) items)) (list_all p items) h in
+    let two = and_parts (rise (map (λ (i : SetItem). i.number) items)) (list_all p items) h in
     all_and_any p (λ i. holds m i.value) items (is_live rows m) (λ i. fits_live schema rows m i.value (item_wants schema home)) two.1 (sym (list_any-made (λ n. n == m) held_by value items) ∙ t)

@@ -10,10 +10,7 @@ use Rattle.state_model.specs.declared.row.RowEntry.{RowEntry}
 use Rattle.state_model.specs.Rows.{number_of, row_at, is_live, held_in, rows_of}
 use Rattle.state_model.specs.Reached.{is_among, with_number, with_numbers, all_held, grown}
 use Rattle.state_laws.proofs.Passing.{list_any-flat_map, list_any-filter, list_any-found, found_passing}
-
-both_true : (a b : Bool) → (a && b) ≡ true → (a ≡ true) × (b ≡ true)
-both_true true b h = (refl, h)
-both_true false b h = cc
+use Rattle.std.proofs.lemmas.Bool.{and_parts}
 
 -- a number that is there and passes is one that passes
 pub among_passes : (p : ℕ → Bool) (ns : List ℕ) (n : ℕ) → is_among n ns ≡ true → p n ≡ true → list_any p ns ≡ true
@@ -136,7 +133,7 @@ held_in_row rows ns a b r h s t = list_any-found number_of (λ (e : RowEntry). i
 pub row_holding : (rows : List RowEntry) (ns : List ℕ) (b : ℕ) → RisesFrom number_of 0 rows → is_held_in rows ns b ≡ true → (a : ℕ) × (r : Row) × (is_among a ns ≡ true) × (row_at rows a ≡ Some r) × (is_among b (held_in r) ≡ true)
 row_holding rows ns b rise h =
     let p = found_passing number_of (λ (e : RowEntry). is_among e.who ns && is_among b (held_in e.row)) 0 rows rise h in
-    let both = both_true (is_among p.0.who ns) (is_among b (held_in p.0.row)) p.2 in
+    let both = and_parts (is_among p.0.who ns) (is_among b (held_in p.0.row)) p.2 in
     (p.0.who, p.0.row, both.0, found_row rows p.0.who p.0 p.1, both.1)
 
 -- a row that stands at a number and holds another makes it held

@@ -11,7 +11,7 @@ use Rattle.state_model.specs.declared.row.RowEntry.{RowEntry}
 use Rattle.state_model.specs.Rows.{number_of, row_at, is_live, held_in}
 use Rattle.state_model.specs.Reached.{is_among, reached, HasNoCycle}
 use Rattle.state_model.specs.Shown.{shown_row, shown, permitted}
-use Rattle.state_laws.proofs.Tests.{both, both_true}
+use Rattle.std.proofs.lemmas.Bool.{and_parts, and_from}
 use Rattle.state_laws.proofs.Numbers.{live_at, at_live, row_chosen}
 use Rattle.state_laws.proofs.ReachedLaws.{reached_start, reached_least, reached_closed, no_way_back, no_cycle_from}
 use Rattle.state_laws.proofs.ShownRows.{shown_held, shown_rises, shown_at}
@@ -70,9 +70,9 @@ in_both schema rows M n = is_among n (reached (shown schema M rows) 0) && is_amo
 -- what a row that is there in both ways shows is reached in both ways
 in_both_on : (schema : Schema) (rows : List RowEntry) (M : List Pair) → RisesFrom number_of 0 rows → (a b : ℕ) (r : Row) → in_both schema rows M a ≡ true → row_at (shown schema M rows) a ≡ Some r → is_among b (held_in r) ≡ true → in_both schema rows M b ≡ true
 in_both_on schema rows M rise a b r h s t =
-    let sides = both_true (is_among a (reached (shown schema M rows) 0)) (is_among a (reached (permitted schema rows M) 0)) h in
+    let sides = and_parts (is_among a (reached (shown schema M rows) 0)) (is_among a (reached (permitted schema rows M) 0)) h in
     let stands : row_at (permitted schema rows M) a ≡ Some r = row_chosen (λ k. is_among k (reached (shown schema M rows) 0)) (shown schema M rows) a ∙ ap (λ x. cond x (row_at (shown schema M rows) a) None) sides.0 ∙ s in
-    both (is_among b (reached (shown schema M rows) 0)) (is_among b (reached (permitted schema rows M) 0))
+    and_from (is_among b (reached (shown schema M rows) 0)) (is_among b (reached (permitted schema rows M) 0))
     (reached_closed (shown schema M rows) 0 a b r (shown_rises schema M 0 rows rise) sides.0 s t)
     (reached_closed (permitted schema rows M) 0 a b r (permitted_rises schema rows M rise) sides.1 stands t)
 
@@ -81,9 +81,9 @@ pub permitted_reached : (schema : Schema) (rows : List RowEntry) (M : List Pair)
 permitted_reached schema rows M rise links root n h =
     let row = at_live (permitted schema rows M) n h in
     let from = permitted_from schema rows M n row.0 rise row.1 in
-    let start = both (is_among 0 (reached (shown schema M rows) 0)) (is_among 0 (reached (permitted schema rows M) 0)) (reached_start (shown schema M rows) 0) (reached_start (permitted schema rows M) 0) in
+    let start = and_from (is_among 0 (reached (shown schema M rows) 0)) (is_among 0 (reached (permitted schema rows M) 0)) (reached_start (shown schema M rows) 0) (reached_start (permitted schema rows M) 0) in
     let sides = reached_least (shown schema M rows) 0 (in_both schema rows M) (shown_rises schema M 0 rows rise) start (in_both_on schema rows M rise) n from.3 in
-    (both_true (is_among n (reached (shown schema M rows) 0)) (is_among n (reached (permitted schema rows M) 0)) sides).1
+    (and_parts (is_among n (reached (shown schema M rows) 0)) (is_among n (reached (permitted schema rows M) 0)) sides).1
 
 -- what is reached in rows that hold no more than others is reached in those
 pub reached_within : (some rows : List RowEntry) → RisesFrom number_of 0 some → RisesFrom number_of 0 rows → ((n m : ℕ) (a : Row) → row_at some n ≡ Some a → is_among m (held_in a) ≡ true → (b : Row) × (row_at rows n ≡ Some b) × (is_among m (held_in b) ≡ true)) → (from m : ℕ) → is_among m (reached some from) ≡ true → is_among m (reached rows from) ≡ true

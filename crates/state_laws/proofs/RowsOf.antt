@@ -11,7 +11,8 @@ use Rattle.state_model.specs.Rows.{number_of, row_at, is_live, held_in, emptied}
 use Rattle.state_model.specs.Reached.{is_among}
 use Rattle.state_model.specs.Sound.{rise, has_root, has_kind, places_fit, are_rows_of}
 use Rattle.state_model.specs.Shown.{shown_row, shown, permitted}
-use Rattle.state_laws.proofs.Tests.{both_true, both, all-found, found-all}
+use Rattle.std.proofs.lemmas.Bool.{and_parts, and_from}
+use Rattle.state_laws.proofs.Tests.{all-found, found-all}
 use Rattle.state_laws.proofs.Numbers.{live_at, at_live, entry, row_found, found_row}
 use Rattle.state_laws.proofs.ReachedLaws.{reached_start}
 use Rattle.state_laws.proofs.ShownRows.{shown_kind}
@@ -26,8 +27,8 @@ row_fits schema rows e = has_kind schema e.row && places_fit schema rows e.row
 -- the parts of the test
 parts : (schema : Schema) (rows : List RowEntry) → are_rows_of schema rows ≡ true → (rise (map number_of rows) ≡ true) × (has_root schema (row_at rows 0) ≡ true) × (list_all (row_fits schema rows) rows ≡ true)
 parts schema rows h =
-    let two = both_true (rise (map number_of rows) && has_root schema (row_at rows 0)) (list_all (row_fits schema rows) rows) h in
-    let rest = both_true (rise (map number_of rows)) (has_root schema (row_at rows 0)) two.0 in
+    let two = and_parts (rise (map number_of rows) && has_root schema (row_at rows 0)) (list_all (row_fits schema rows) rows) h in
+    let rest = and_parts (rise (map number_of rows)) (has_root schema (row_at rows 0)) two.0 in
     (rest.0, rest.1, two.1)
 
 -- rows of a schema rise
@@ -37,7 +38,7 @@ rows_rise schema rows h = rises_where number_of rows (parts schema rows h).0
 -- a row of a schema is of a declared kind, and its places fit
 pub rows_fit : (schema : Schema) (rows : List RowEntry) → are_rows_of schema rows ≡ true → (n : ℕ) (r : Row) → row_at rows n ≡ Some r → (has_kind schema r ≡ true) × (places_fit schema rows r ≡ true)
 rows_fit schema rows h n r s =
-    both_true (has_kind schema r) (places_fit schema rows r) (all-found number_of (row_fits schema rows) rows n (entry n r) (parts schema rows h).2 (row_found rows n r s))
+    and_parts (has_kind schema r) (places_fit schema rows r) (all-found number_of (row_fits schema rows) rows n (entry n r) (parts schema rows h).2 (row_found rows n r s))
 
 -- the links of rows of a schema lead to rows that are there
 pub rows_links : (schema : Schema) (rows : List RowEntry) → are_rows_of schema rows ≡ true → (n m : ℕ) (r : Row) → row_at rows n ≡ Some r → is_among m (held_in r) ≡ true → is_live rows m ≡ true
@@ -76,7 +77,7 @@ permitted_row_fits schema rows M h n p s =
     let old = rows_fit schema rows h n from.0 from.1 in
     let kind : emptied p ≡ emptied from.0 = ap emptied from.2 ∙ shown_kind schema M n from.0 in
     let fits : places_fit schema rows p ≡ true = ap (places_fit schema rows) from.2 ∙ shown_fits schema rows M n from.0 old.1 in
-    both (has_kind schema p) (places_fit schema (permitted schema rows M) p) (same_declared schema p from.0 kind ∙ old.0)
+    and_from (has_kind schema p) (places_fit schema (permitted schema rows M) p) (same_declared schema p from.0 kind ∙ old.0)
     (places_fit_elsewhere schema rows (permitted schema rows M) p (permitted_one_kind schema rows M h n p s) fits)
 
 -- what is permitted of rows of a schema is rows of the schema
@@ -85,6 +86,6 @@ permitted_rows_of schema rows M h =
     let some = permitted schema rows M in
     let rises = permitted_rises schema rows M (rows_rise schema rows h) in
     let each = found-all number_of (row_fits schema some) 0 some rises (λ e s. permitted_row_fits schema rows M h e.who e.row (found_row some e.who e s)) in
-    both (rise (map number_of some) && has_root schema (row_at some 0)) (list_all (row_fits schema some) some)
-    (both (rise (map number_of some)) (has_root schema (row_at some 0)) (rise_where number_of 0 some rises) (permitted_root_class schema rows M h))
+    and_from (rise (map number_of some) && has_root schema (row_at some 0)) (list_all (row_fits schema some) some)
+    (and_from (rise (map number_of some)) (has_root schema (row_at some 0)) (rise_where number_of 0 some rises) (permitted_root_class schema rows M h))
     each

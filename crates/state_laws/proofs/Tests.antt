@@ -1,19 +1,11 @@
 -- What tests of all or of any of a list's items say of one another, of a filtered list, and of rising keys.
-use Rattle.std.proofs.Common.{◌≡◌, ℕ, suc, Bool, true, false, ◌&&◌, ◌||◌, List, [], ◌∷◌, Some, map, filter, refl, ap, ◌∙◌, arith}
+use Rattle.std.proofs.Common.{◌≡◌, ℕ, suc, Bool, true, ◌||◌, List, [], ◌∷◌, Some, map, filter, refl, ap, ◌∙◌, arith}
 use Rattle.std.specs.List.{list_any, list_all, flat_map}
+use Rattle.std.proofs.lemmas.Bool.{and_parts, and_from}
 use Rattle.std.proofs.lemmas.Bool.Decides.{nat_tests}
 use Rattle.lists.specs.Rising.{RisesFrom, find}
 use Rattle.lists.proofs.RisingLaws.{find_first}
 use Rattle.state_laws.proofs.Passing.{found_behind, list_any-flat_map}
-
--- where both of two tests hold together, each does
-pub both_true : (a b : Bool) → (a && b) ≡ true → (a ≡ true) × (b ≡ true)
-both_true true b h = (refl, h)
-both_true false b h = cc
-
--- two tests that hold do so together
-pub both : (a b : Bool) → a ≡ true → b ≡ true → (a && b) ≡ true
-both a b h t = grind (arith, nat_tests)
 
 -- a test of what items are made into is a test of the items
 pub list_any-map : {X Y : Type 0} (p : Y → Bool) (f : X → Y) (xs : List X) → list_any p (map f xs) ≡ list_any (λ x. p (f x)) xs
@@ -50,8 +42,8 @@ stands_behind x y xs s t h = grind (arith, nat_tests, s t h)
 pub list_all_wider : {X : Type 0} (p q : X → Bool) (xs : List X) → ((x : X) → StandsIn x xs → p x ≡ true → q x ≡ true) → list_all p xs ≡ true → list_all q xs ≡ true
 list_all_wider p q [] n h = h
 list_all_wider p q (x ∷ xs) n h =
-    let here = both_true (p x) (list_all p xs) h in
-    both (q x) (list_all q xs) (n x (stands_first x xs) here.0) (list_all_wider p q xs (λ y s. n y (stands_behind y x xs s)) here.1)
+    let here = and_parts (p x) (list_all p xs) h in
+    and_from (q x) (list_all q xs) (n x (stands_first x xs) here.0) (list_all_wider p q xs (λ y s. n y (stands_behind y x xs s)) here.1)
 
 -- where all pass one test and one passes another, one passes both
 pub all_and_any : {X : Type 0} (p q : X → Bool) (xs : List X) (b : Bool) → ((x : X) → p x ≡ true → q x ≡ true → b ≡ true) → list_all p xs ≡ true → list_any q xs ≡ true → b ≡ true
@@ -68,4 +60,4 @@ module _ {E : Type 0} (key : E → ℕ) where
   pub found-all : (p : E → Bool) (low : ℕ) (es : List E) → RisesFrom key low es → ((e : E) → find key (key e) es ≡ Some e → p e ≡ true) → list_all p es ≡ true
   found-all p low [] r h = refl
   found-all p low (x ∷ es) r h =
-      both (p x) (list_all p es) (h x (find_first key x es)) (found-all p (suc (key x)) es r.1 (λ e s. h e (found_behind key x es (key e) e r.1 s)))
+      and_from (p x) (list_all p es) (h x (find_first key x es)) (found-all p (suc (key x)) es r.1 (λ e s. h e (found_behind key x es (key e) e r.1 s)))

@@ -1,5 +1,5 @@
 -- The blocks of the numbers that old and new rows both have, one after another.
-use Rattle.std.proofs.Common.{◌≡◌, ◌≤◌, ℕ, suc, Bool, true, false, cond, ◌||◌, ◌&&◌, List, [], ◌∷◌, ◌++◌, map, Option, Some, None, refl, sym, ap, subst, ◌∙◌, ◌==◌, arith, append_assoc, append-nil}
+use Rattle.std.proofs.Common.{◌≡◌, ◌≤◌, ℕ, suc, Bool, true, false, cond, ◌||◌, ◌&&◌, List, [], ◌∷◌, ◌++◌, Option, Some, None, refl, sym, ap, subst, ◌∙◌, ◌==◌, arith, append_assoc, append-nil}
 use Rattle.std.specs.Prelude.{is_some}
 use Rattle.std.specs.List.{flat_map}
 use Rattle.std.proofs.lemmas.Bool.{eqb-true}
@@ -7,21 +7,20 @@ use Rattle.std.proofs.lemmas.Grind.{flat_map-append}
 use Rattle.std.proofs.lemmas.Bool.Decides.{nat_tests}
 use Rattle.lists.specs.Rising.{RisesFrom}
 use Rattle.schema_model.specs.Classes.{Schema}
-use Rattle.schema_model.specs.declared.value.Value.{Value}
 use Rattle.state_model.specs.declared.row.Row.{Row}
-use Rattle.state_model.specs.declared.row.Row.TheVariants.{Struct, Map, Array, Set}
 use Rattle.state_model.specs.declared.row.RowEntry.{RowEntry}
 use Rattle.state_model.specs.Rows.{number_of, row_at, is_live, held_in}
 use Rattle.state_model.specs.Places.{same_kind}
 use Rattle.state_model.specs.Reached.{is_among}
 use Rattle.state_laws.proofs.Numbers.{live_row}
 use Rattle.wire_model.specs.Edits.{Edit, EditBlock}
-use Rattle.wire_model.specs.Effect.{apply_block, apply_edits, edited_row, opened, closed, closed_slots}
+use Rattle.wire_model.specs.Effect.{apply_block, apply_edits, edited_row}
 use Rattle.wire_model.specs.Patch.{named_in, named_by_blocks, row_edits, block_of, common_block, kind_in}
 use Rattle.wire_laws.proofs.Forms.{IsFormed, SameKeys}
 use Rattle.wire_laws.proofs.LinkedRows.{CarriesKinds, row_carries}
 use Rattle.wire_laws.proofs.RowLaw.{row_law}
 use Rattle.wire_laws.proofs.Looks.{Looks, looked, one_more, block_looks, there_more}
+use Rattle.wire_laws.proofs.EditSteps.{closed_opened}
 
 -- old and new rows, each row of its form; what both have is of one kind; links lead to rows that are there
 pub record Ready (schema : Schema) (old new : List RowEntry) : Type 0 where
@@ -42,17 +41,6 @@ leads_to schema old new n a b r is_old is_new =
     row_law schema new a b (r.kinds n a b is_old is_new) (r.old_formed n a is_old) (r.new_formed n b is_new) (r.keys n a b is_old is_new)
 
 -- ---- one number
-
-closed_somes : (vs : List Value) → closed_slots (map Some vs) ≡ vs
-closed_somes [] = refl
-closed_somes (v ∷ vs) = ap (λ us. v ∷ us) (closed_somes vs)
-
--- a row that was opened and closed is as it was
-pub closed_opened : (r : Row) → closed (opened r) ≡ r
-closed_opened (Struct class fields) = refl
-closed_opened (Map home items) = refl
-closed_opened (Array home values) = ap (Array home) (closed_somes values)
-closed_opened (Set home items) = refl
 
 -- a number that isn't worked and that old rows have looks as there
 pub looks_old : (old new : List RowEntry) (worked : ℕ → Bool) (named : List ℕ) (n : ℕ) (a : Row) → worked n ≡ false → row_at old n ≡ Some a → looked old new worked named n ≡ Some a

@@ -15,13 +15,9 @@ use Rattle.wire_model.specs.Edits.{Carried, Edit, Add, Replace, DeleteAdd, Delet
 use Rattle.wire_model.specs.Effect.{Body, opened, closed, closed_slots, effect, edited_row, drop_link}
 use Rattle.wire_model.specs.Patch.{carried, changed_place, place_edit, drop_edit, push_edit, ref_edits, whole_start, gone_of, kept_of, same_values, stands_in}
 use Rattle.state_model.specs.Values.{same_value}
+use Rattle.wire_laws.proofs.SlotRuns.{closed_slots-map}
 
 -- ---- open and closed
-
--- values without holes are as they were
-closed_slots-map : (vs : List Value) → closed_slots (map Some vs) ≡ vs
-closed_slots-map [] = refl
-closed_slots-map (v ∷ vs) = ap (λ us. v ∷ us) (closed_slots-map vs)
 
 -- a row that is opened and closed is as it was
 pub closed_opened : (r : Row) → closed (opened r) ≡ r

@@ -24,6 +24,7 @@ use Rattle.wire_model.specs.Edits.{Edit, Add, Replace, DeleteAdd, Delete, Clear,
 use Rattle.wire_model.specs.Effect.{Body, Fields, Items, Slots, Elements, closed, closed_slots, effect, edited_row, put_named, put_value, without_key, push_link, has_link, put_slot, add_slot, is_present_at}
 use Rattle.wire_model.specs.Patch.{carried, field_value, map_item, item_value, item_key, set_value, row_edits, whole_edits, whole_start, ref_edits, slot_edits, either_number}
 use Rattle.wire_laws.proofs.EditSteps.{PutsPass, edited_keeps, all-filter, all-append, closed_slots-push, all-drop_link, places_pass, ref_edits_pass, start_passes}
+use Rattle.wire_laws.proofs.Values.{carried_is}
 
 -- p of the number and value of each field, q of the value of each item, and k of the number and key of each item of a map
 abbrev pub all_places : (ℕ → Value → Bool) → (Value → Bool) → (ℕ → List ℕ → Bool) → Row → Bool
@@ -31,13 +32,6 @@ all_places p q k (Struct class fields) = list_all (λ (f : FieldValue). p f.fiel
 all_places p q k (Map home items) = list_all (λ (i : MapItem). q i.value && k i.number i.key) items
 all_places p q k (Array home values) = list_all q values
 all_places p q k (Set home items) = list_all (λ (i : SetItem). q i.value) items
-
--- the value that an operation carries is the one it was made of
-pub carried_is : (rows : List RowEntry) (wanted : Option Wanted) (v : Value) → carried_value (carried rows wanted v) ≡ v
-carried_is rows wanted (Whole z) = refl
-carried_is rows wanted (Str t) = refl
-carried_is rows wanted (Truth b) = refl
-carried_is rows wanted (Link n) = refl
 
 -- ---- lists
 

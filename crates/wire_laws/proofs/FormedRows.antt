@@ -1,10 +1,8 @@
 -- Rows of a schema are well formed.
-use Rattle.std.proofs.Common.{◌≡◌, ◌≤◌, ◌<◌, ℕ, suc, Bool, true, false, not, ◌&&◌, ◌||◌, ◌==◌, cond, List, [], ◌∷◌, map, Option, Some, None, refl, sym, ap, ◌∙◌, arith, ltb-true}
+use Rattle.std.proofs.Common.{◌≡◌, ℕ, Bool, true, false, not, ◌||◌, List, Option, Some, None, refl}
 use Rattle.std.specs.Prelude.{is_some, option_and_then}
-use Rattle.std.specs.List.{list_all}
 use Rattle.std.specs.Option.{option_map}
 use Rattle.std.proofs.lemmas.Bool.{and_parts}
-use Rattle.lists.specs.Rising.{RisesFrom, find}
 use Rattle.schema_model.specs.Classes.{Schema, home_field, item_of}
 use Rattle.schema_model.specs.declared.class.FieldDecl.{FieldDecl}
 use Rattle.schema_model.specs.declared.class.Item.{Item}
@@ -19,39 +17,13 @@ use Rattle.state_model.specs.declared.row.FieldValue.{FieldValue}
 use Rattle.state_model.specs.declared.row.MapItem.{MapItem}
 use Rattle.state_model.specs.declared.row.SetItem.{SetItem}
 use Rattle.state_model.specs.Values.{is_link}
-use Rattle.state_model.specs.Rows.{number_of, row_at}
+use Rattle.state_model.specs.Rows.{row_at}
 use Rattle.state_model.specs.Places.{AnItem, is_filtered, holds_instances, item_wants, instance_class}
-use Rattle.state_model.specs.Sound.{rise, differ, has_kind, places_fit, fits_place, fits_wanted, are_rows_of}
-use Rattle.state_laws.proofs.Numbers.{row_found}
+use Rattle.state_model.specs.Sound.{differ, places_fit, fits_place, fits_wanted, are_rows_of}
+use Rattle.state_laws.proofs.Tests.{list_all_wider}
+use Rattle.state_laws.proofs.FittingRows.{rises_where}
+use Rattle.state_laws.proofs.RowsOf.{rows_fit}
 use Rattle.wire_laws.proofs.Forms.{IsFormed}
-
--- ---- lists
-
-rises_behind : {E : Type 0} (key : E → ℕ) (e : E) (es : List E) (low : ℕ) → rise (map key (e ∷ es)) ≡ true → low ≤ key e → RisesFrom key low (e ∷ es)
-rises_behind key e [] low h above = (above, tt)
-rises_behind key e (x ∷ es) low h above =
-    let parts = and_parts _ _ h in
-    let below : key e < key x = ltb-true (key e) (key x) parts.0 in
-    (above, rises_behind key x es (suc (key e)) parts.1 (omega arith))
-
--- what rises by test rises
-pub rises_of : {E : Type 0} (key : E → ℕ) (es : List E) → rise (map key es) ≡ true → RisesFrom key 0 es
-rises_of key [] h = tt
-rises_of key (e ∷ es) h = rises_behind key e es 0 h (omega arith)
-
--- what all pass, one that is found passes
-pub all_found : {E : Type 0} (key : E → ℕ) (p : E → Bool) (es : List E) (k : ℕ) (e : E) → list_all p es ≡ true → find key k es ≡ Some e → p e ≡ true
-all_found key p [] k e h f = cc
-all_found key p (x ∷ es) k e h f =
-    let parts = and_parts _ _ h in
-    let go : (b : Bool) → (key x == k) ≡ b → cond b (Some x) (find key k es) ≡ Some e → p e ≡ true = elim [
-      | true ↦ λ t g. let same : x ≡ e = cc in ap p (sym same) ∙ parts.0
-      | false ↦ λ t g. all_found key p es k e parts.1 g
-    ] in go (key x == k) refl f
-
-all_narrower : {E : Type 0} (p q : E → Bool) (es : List E) → ((e : E) → p e ≡ true → q e ≡ true) → list_all p es ≡ true → list_all q es ≡ true
-all_narrower p q [] f h = refl
-all_narrower p q (e ∷ es) f h = let parts = and_parts _ _ h in rw (f e parts.0) (all_narrower p q es f parts.1)
 
 -- ---- a filtered array holds links
 
@@ -78,20 +50,18 @@ differs_of true d f h = h
 differs_of false d f h = cc
 
 formed_place : (schema : Schema) (rows : List RowEntry) (r : Row) → places_fit schema rows r ≡ true → IsFormed schema r
-formed_place schema rows (Struct class fields) h = rises_of (λ (f : FieldValue). f.field) fields (and_parts _ _ h).0
+formed_place schema rows (Struct class fields) h = rises_where (λ (f : FieldValue). f.field) fields (and_parts _ _ h).0
 formed_place schema rows (Map home items) h =
-    let parts = and_parts _ _ (and_parts _ _ h).0 in (rises_of (λ (i : MapItem). i.number) items parts.0, parts.1)
+    let parts = and_parts _ _ (and_parts _ _ h).0 in (rises_where (λ (i : MapItem). i.number) items parts.0, parts.1)
 formed_place schema rows (Array home values) h = λ filtered.
     let parts = and_parts _ _ h in
     let instances = (and_parts _ _ filtered).1 in (
       differs_of (is_filtered schema home) (differ values) filtered parts.0,
-      all_narrower (λ v. fits_place schema rows v (item_wants schema home)) is_link values (λ v fit. item_links schema rows home v instances fit) parts.1,
+      list_all_wider (λ v. fits_place schema rows v (item_wants schema home)) is_link values (λ v here fit. item_links schema rows home v instances fit) parts.1,
     )
-formed_place schema rows (Set home items) h = rises_of (λ (i : SetItem). i.number) items (and_parts _ _ h).0
+formed_place schema rows (Set home items) h = rises_where (λ (i : SetItem). i.number) items (and_parts _ _ h).0
 
 -- each row of rows of a schema is well formed
 pub rows_formed : (schema : Schema) (rows : List RowEntry) (n : ℕ) (r : Row) → are_rows_of schema rows ≡ true → row_at rows n ≡ Some r → IsFormed schema r
 rows_formed schema rows n r h is =
-    let all = (and_parts _ _ h).1 in
-    let one = all_found number_of (λ (e : RowEntry). has_kind schema e.row && places_fit schema rows e.row) rows n _ all (row_found rows n r is) in
-    formed_place schema rows r (and_parts _ _ one).1
+    formed_place schema rows r (rows_fit schema rows h n r is).1

@@ -1,5 +1,5 @@
 -- What operations that lead to shared rows keep of a client's rows.
-use Rattle.std.proofs.Common.{◌≡◌, ℕ, Bool, true, false, cond, ◌||◌, ◌==◌, zero, suc, List, [], ◌∷◌, ◌++◌, length, inl, inr, Option, Some, None, refl, sym, ap, subst, ◌∙◌}
+use Rattle.std.proofs.Common.{◌≡◌, ℕ, Bool, true, false, cond, ◌==◌, zero, suc, List, [], ◌∷◌, ◌++◌, length, inl, inr, Option, Some, None, refl, sym, ap, subst, ◌∙◌}
 use Rattle.std.specs.Prelude.{◌⊎◌}
 use Rattle.std.specs.Option.{option_map_or}
 use Rattle.std.proofs.lemmas.Bool.{eqb-true}
@@ -26,6 +26,9 @@ use Rattle.wire_laws.proofs.Origins.{IsFrom, Kept}
 use Rattle.wire_laws.proofs.OriginLaws.{from_client, from_emptied, from_edited, from_whole}
 use Rattle.wire_laws.proofs.EditedNames.{edited_names}
 use Rattle.wire_laws.proofs.KindLaws.{kind_emptied}
+use Rattle.std.proofs.lemmas.Option.{same_Some}
+use Rattle.wire_laws.proofs.Bools.{or_right, in_either}
+use Rattle.wire_laws.proofs.RowLaw.{emptied_formed}
 
 -- the operations of a block lead to the goal's row of its holder
 pub record LeadsTo (schema : Schema) (goal : List RowEntry) (b : EditBlock) : Type 0 where
@@ -33,17 +36,10 @@ pub record LeadsTo (schema : Schema) (goal : List RowEntry) (b : EditBlock) : Ty
   pub is_row : row_at goal b.holder ≡ Some row
   pub leads : ((x : Row) × (same_kind x row ≡ true) × (b.edits ≡ row_edits schema goal x row)) ⊎ (b.edits ≡ whole_edits schema goal row)
 
-or_right : (a b : Bool) → b ≡ true → (a || b) ≡ true
-or_right true b h = refl
-or_right false b h = h
-
 holds_none : (m : ℕ) (r : Row) → is_among m (held_in (emptied r)) ≡ false
 holds_none m r = ap (is_among m) (emptied_holds r)
 
 -- ---- the rows that a block's operations name
-
-same_some : (x y : Row) → Some x ≡ Some y → x ≡ y
-same_some x y h = cc
 
 -- what stands under a number there: as it stood, or the goal's row without its places
 named_stands : (goal now : List RowEntry) (es : List Edit) (n : ℕ) (r : Row) → RisesFrom number_of 0 now → CarriesKinds goal es → row_at (with_named es now) n ≡ Some r
@@ -53,7 +49,7 @@ named_stands goal now es n r rises carries is =
     → (row_at now n ≡ Some r) ⊎ ((is_live now n ≡ false) × (is_among n (named_in es) ≡ true) × (r ≡ kind_in goal n)) = elim [
       | true ↦ λ c live named h. inl h
       | false ↦ elim [
-        | true ↦ λ gone named h. inr (gone, named, same_some r (kind_in goal n) (sym h))
+        | true ↦ λ gone named h. inr (gone, named, same_Some r (kind_in goal n) (sym h))
         | false ↦ λ gone named h. cc
       ]
     ] in go (is_live now n) (is_among n (named_in es)) refl refl (sym (named_rows goal es now n rises carries) ∙ is)
@@ -74,12 +70,6 @@ named_there goal now es n rises carries named =
           live_at (with_named es now) n (kind_in goal n) (named_rows goal es now n rises carries
           ∙ (ap (λ b. cond b (row_at now n) (cond (is_among n (named_in es)) (Some (kind_in goal n)) None)) gone ∙ ap (λ c. cond c (Some (kind_in goal n)) None) named))
     ] in go (is_live now n) refl
-
-emptied_formed : (schema : Schema) (r : Row) → IsFormed schema (emptied r)
-emptied_formed schema (Struct class fields) = tt
-emptied_formed schema (Map home items) = (tt, refl)
-emptied_formed schema (Array home values) = λ f. (refl, refl)
-emptied_formed schema (Set home items) = tt
 
 emptied_twice : (r : Row) → emptied (emptied r) ≡ emptied r
 emptied_twice (Struct class fields) = refl
@@ -161,7 +151,7 @@ replaced_kept schema client goal now next holder r x k is formed kind origin lin
     stands : (n : ℕ) (y : Row) → row_at next n ≡ Some y → ((holder ≡ n) × (y ≡ x)) ⊎ (row_at now n ≡ Some y)
     stands n y at =
         let go : (b : Bool) → (holder == n) ≡ b → cond b (Some x) (row_at now n) ≡ Some y → ((holder ≡ n) × (y ≡ x)) ⊎ (row_at now n ≡ Some y) = elim [
-          | true ↦ λ t h. inl (eqb-true holder n t, same_some y x (sym h))
+          | true ↦ λ t h. inl (eqb-true holder n t, same_Some y x (sym h))
           | false ↦ λ t h. inr h
         ] in go (holder == n) refl (sym (rows n) ∙ at)
 
@@ -214,10 +204,6 @@ origin_of schema goal b r a l kind origin =
       | inl h ↦ subst P (sym h.2) (from_edited schema goal h.0 l.row r a h.1 same origin)
       | inr h ↦ subst P (sym h) (from_whole schema goal l.row r a same origin)
     ]
-
-in_either : (a b c : Bool) → (a ≡ true → c ≡ true) → (b ≡ true → c ≡ true) → (a || b) ≡ true → c ≡ true
-in_either true b c f g h = f refl
-in_either false b c f g h = g h
 
 -- a block keeps rows
 block_kept : (schema : Schema) (client goal now : List RowEntry) (b : EditBlock) → IsGoal schema goal → Kept schema client goal now → LeadsTo schema goal b → Kept schema client goal (apply_block now b)
@@ -310,7 +296,7 @@ pub kept_at_first : (schema : Schema) (client goal : List RowEntry) → RisesFro
 kept_at_first schema client goal rises is kinds = record {
   rises = rises;
   formed = is.formed;
-  client_kind = λ n r a at client_is. ap emptied (same_some r a (sym at ∙ client_is));
+  client_kind = λ n r a at client_is. ap emptied (same_Some r a (sym at ∙ client_is));
   goal_kind = λ n r b at goal_is. kinds n r b at goal_is;
   there = λ n live. rw live refl;
   stays = λ n live. live;

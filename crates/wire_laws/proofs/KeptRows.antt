@@ -20,7 +20,8 @@ use Rattle.state_model.specs.Places.{Wanted, field_wants, item_wants, is_filtere
 use Rattle.state_model.specs.Sound.{rise, differ, keys_differ, has_kind, has_root, places_fit, fits_place, are_rows_of}
 use Rattle.state_laws.proofs.Passing.{list_any-flat_map}
 use Rattle.state_laws.proofs.Numbers.{entry, at_live, live_at, found_row}
-use Rattle.state_laws.proofs.Tests.{both_true, both, list_any-map, list_any-made, list_all_wider, all_and_any, found-all}
+use Rattle.std.proofs.lemmas.Bool.{and_parts, and_from}
+use Rattle.state_laws.proofs.Tests.{list_any-map, list_any-made, list_all_wider, all_and_any, found-all}
 use Rattle.state_laws.proofs.Fitting.{OneKind, same_class, same_declared, one_home, fits_elsewhere, fits_live}
 use Rattle.state_laws.proofs.FittingRows.{rise_where}
 use Rattle.state_laws.proofs.RowsOf.{rows_fit, rows_root}
@@ -57,7 +58,7 @@ field_fits : (schema : Schema) (rows : List RowEntry) (class i : ℕ) (fields : 
     → emptied (Struct class fields) ≡ emptied a → places_fit schema rows a ≡ true → has_field i v a ≡ true → fits_place schema rows v (field_wants schema class i) ≡ true
 field_fits schema rows class i fields v (Struct kind others) e h t =
     let same : class ≡ kind = cc in
-    let two = both_true (rise (map (λ (f : FieldValue). f.field) others)) (list_all (λ (f : FieldValue). fits_place schema rows f.value (field_wants schema kind f.field)) others) h in
+    let two = and_parts (rise (map (λ (f : FieldValue). f.field) others)) (list_all (λ (f : FieldValue). fits_place schema rows f.value (field_wants schema kind f.field)) others) h in
     let fits : fits_place schema rows v (field_wants schema kind i) ≡ true =
     all_and_any (λ (f : FieldValue). fits_place schema rows f.value (field_wants schema kind f.field)) (λ (f : FieldValue). (f.field == i) && same_value f.value v) others
     (fits_place schema rows v (field_wants schema kind i)) (λ f fit here. this_field kind f fit here) two.1 t
@@ -66,7 +67,7 @@ field_fits schema rows class i fields v (Struct kind others) e h t =
   where
     this_field : (kind : ℕ) (f : FieldValue) → fits_place schema rows f.value (field_wants schema kind f.field) ≡ true → ((f.field == i) && same_value f.value v) ≡ true → fits_place schema rows v (field_wants schema kind i) ≡ true
     this_field kind f fit here =
-        let both_are = both_true (f.field == i) (same_value f.value v) here in
+        let both_are = and_parts (f.field == i) (same_value f.value v) here in
         let number : f.field ≡ i = grind (arith, nat_tests, both_are.0) in
         subst (λ j. fits_place schema rows v (field_wants schema kind j) ≡ true) number (subst (λ u. fits_place schema rows u (field_wants schema kind f.field) ≡ true) (same_is f.value v both_are.1) fit)
 field_fits schema rows class i fields v (Map home items) e h t = cc
@@ -87,18 +88,18 @@ item_fits schema rows home v (Struct class fields) e h t = cc
 item_fits schema rows home v (Map place items) e h t =
     let same : place ≡ home = cc in
     let value = λ (i : MapItem). i.value in
-    let two = both_true (rise (map (λ (i : MapItem). i.number) items) && keys_differ (map (λ (i : MapItem). i.key) items)) (list_all (λ (i : MapItem). fits_place schema rows i.value (item_wants schema place)) items) h in
+    let two = and_parts (rise (map (λ (i : MapItem). i.number) items) && keys_differ (map (λ (i : MapItem). i.key) items)) (list_all (λ (i : MapItem). fits_place schema rows i.value (item_wants schema place)) items) h in
     subst (λ k. fits_place schema rows v (item_wants schema k) ≡ true) same
     (value_among schema rows (item_wants schema place) value v items two.1 (sym (list_any-map (λ u. same_value u v) value items) ∙ t))
 item_fits schema rows home v (Array place values) e h t =
     let same : place ≡ home = cc in
-    let two = both_true (not (is_filtered schema place) || differ values) (list_all (λ u. fits_place schema rows u (item_wants schema place)) values) h in
+    let two = and_parts (not (is_filtered schema place) || differ values) (list_all (λ u. fits_place schema rows u (item_wants schema place)) values) h in
     subst (λ k. fits_place schema rows v (item_wants schema k) ≡ true) same
     (value_among schema rows (item_wants schema place) (λ u. u) v values two.1 t)
 item_fits schema rows home v (Set place items) e h t =
     let same : place ≡ home = cc in
     let value = λ (i : SetItem). i.value in
-    let two = both_true (rise (map (λ (i : SetItem). i.number) items)) (list_all (λ (i : SetItem). fits_place schema rows i.value (item_wants schema place)) items) h in
+    let two = and_parts (rise (map (λ (i : SetItem). i.number) items)) (list_all (λ (i : SetItem). fits_place schema rows i.value (item_wants schema place)) items) h in
     subst (λ k. fits_place schema rows v (item_wants schema k) ≡ true) same
     (value_among schema rows (item_wants schema place) value v items two.1 (sym (list_any-map (λ u. same_value u v) value items) ∙ t))
 
@@ -140,8 +141,8 @@ module _ (schema : Schema) (side now : List RowEntry) (sound : are_rows_of schem
   root_now live =
       let a = at_live side 0 (rows_root schema side sound) in
       let r = at_live now 0 live in
-      let first = both_true (rise (map number_of side) && has_root schema (row_at side 0)) (list_all (λ (e : RowEntry). has_kind schema e.row && places_fit schema side e.row) side) sound in
-      let root = both_true (rise (map number_of side)) (has_root schema (row_at side 0)) first.0 in
+      let first = and_parts (rise (map number_of side) && has_root schema (row_at side 0)) (list_all (λ (e : RowEntry). has_kind schema e.row && places_fit schema side e.row) side) sound in
+      let root = and_parts (rise (map number_of side)) (has_root schema (row_at side 0)) first.0 in
       ap (has_root schema) r.1 ∙ ap (λ o. option_map_or (λ c. c == schema.root) o false) (same_class r.0 a.0 (kinds 0 r.0 a.0 r.1 a.1)) ∙ ap (has_root schema) (sym a.1) ∙ root.1
 
 -- ---- rows that are left of a client's
@@ -167,7 +168,7 @@ module _ (schema : Schema) (client goal now : List RowEntry) (ours : are_rows_of
       let value = λ (f : FieldValue). f.value in
       let origin = λ (f : FieldValue). some_row (has_field f.field f.value) (row_at client n) || some_row (has_field f.field f.value) (row_at goal n) in
       let fits = λ (f : FieldValue). fits_place schema now f.value (field_wants schema class f.field) in
-      both (rise (map (λ (f : FieldValue). f.field) fields)) (list_all fits fields) (rise_where (λ (f : FieldValue). f.field) 0 fields formed)
+      and_from (rise (map (λ (f : FieldValue). f.field) fields)) (list_all fits fields) (rise_where (λ (f : FieldValue). f.field) 0 fields formed)
       (list_all_wider origin fits fields
       (λ f stands. field_kept n class f.field fields f.value is (λ m t. k.links n m (Struct class fields) is (list_any-made (λ j. j == m) held_by value fields ∙ stands (λ g. is_among m (held_by g.value)) t)))
       from)
@@ -176,17 +177,17 @@ module _ (schema : Schema) (client goal now : List RowEntry) (ours : are_rows_of
       let has = λ (v : Value). some_row (has_value v) (row_at client n) || some_row (has_value v) (row_at goal n) in
       let named = λ (i : MapItem). some_row (has_key i.number i.key) (row_at client n) || some_row (has_key i.number i.key) (row_at goal n) in
       let fits = λ (i : MapItem). fits_place schema now i.value (item_wants schema home) in
-      both (rise (map (λ (i : MapItem). i.number) items) && keys_differ (map (λ (i : MapItem). i.key) items)) (list_all fits items)
-      (both (rise (map (λ (i : MapItem). i.number) items)) (keys_differ (map (λ (i : MapItem). i.key) items)) (rise_where (λ (i : MapItem). i.number) 0 items formed.0) formed.1)
+      and_from (rise (map (λ (i : MapItem). i.number) items) && keys_differ (map (λ (i : MapItem). i.key) items)) (list_all fits items)
+      (and_from (rise (map (λ (i : MapItem). i.number) items)) (keys_differ (map (λ (i : MapItem). i.key) items)) (rise_where (λ (i : MapItem). i.number) 0 items formed.0) formed.1)
       (list_all_wider (λ (i : MapItem). has i.value && named i) fits items
       (λ i stands h. item_kept n home (Map home items) i.value refl is
       (λ m t. k.links n m (Map home items) is (list_any-made (λ j. j == m) held_by value items ∙ stands (λ g. is_among m (held_by g.value)) t))
-      (both_true (has i.value) (named i) h).0)
+      (and_parts (has i.value) (named i) h).0)
       from)
   places_kept n (Array home values) is formed from =
       let has = λ (v : Value). some_row (has_value v) (row_at client n) || some_row (has_value v) (row_at goal n) in
       let fits = λ (v : Value). fits_place schema now v (item_wants schema home) in
-      both (not (is_filtered schema home) || differ values) (list_all fits values)
+      and_from (not (is_filtered schema home) || differ values) (list_all fits values)
       (unless (is_filtered schema home) (differ values) (λ filtered. (formed filtered).0))
       (list_all_wider has fits values
       (λ v stands. item_kept n home (Array home values) v refl is
@@ -196,7 +197,7 @@ module _ (schema : Schema) (client goal now : List RowEntry) (ours : are_rows_of
       let value = λ (i : SetItem). i.value in
       let has = λ (v : Value). some_row (has_value v) (row_at client n) || some_row (has_value v) (row_at goal n) in
       let fits = λ (i : SetItem). fits_place schema now i.value (item_wants schema home) in
-      both (rise (map (λ (i : SetItem). i.number) items)) (list_all fits items) (rise_where (λ (i : SetItem). i.number) 0 items formed)
+      and_from (rise (map (λ (i : SetItem). i.number) items)) (list_all fits items) (rise_where (λ (i : SetItem). i.number) 0 items formed)
       (list_all_wider (λ (i : SetItem). has i.value) fits items
       (λ i stands. item_kept n home (Set home items) i.value refl is
       (λ m t. k.links n m (Set home items) is (list_any-made (λ j. j == m) held_by value items ∙ stands (λ g. is_among m (held_by g.value)) t)))
@@ -205,7 +206,7 @@ module _ (schema : Schema) (client goal now : List RowEntry) (ours : are_rows_of
   -- a row is of a declared kind, and its places fit
   row_kept : (n : ℕ) (r : Row) → row_at now n ≡ Some r → (has_kind schema r && places_fit schema now r) ≡ true
   row_kept n r is =
-      both (has_kind schema r) (places_fit schema now r)
+      and_from (has_kind schema r) (places_fit schema now r)
       (by_either (is_live client n) (is_live goal n) (has_kind schema r)
       (kind_now schema client now ours k.client_kind n r is) (kind_now schema goal now theirs k.goal_kind n r is) (k.there n (live_at now n r is)))
       (places_kept n r is (k.formed n r is) (k.origin n r is))
@@ -213,7 +214,7 @@ module _ (schema : Schema) (client goal now : List RowEntry) (ours : are_rows_of
 -- what is left of a client's rows, on the way to rows of the schema, is rows of the schema
 pub kept_rows_of : (schema : Schema) (client goal now : List RowEntry) → are_rows_of schema client ≡ true → are_rows_of schema goal ≡ true → Kept schema client goal now → are_rows_of schema now ≡ true
 kept_rows_of schema client goal now ours theirs k =
-    both (rise (map number_of now) && has_root schema (row_at now 0)) (list_all (λ (e : RowEntry). has_kind schema e.row && places_fit schema now e.row) now)
-    (both (rise (map number_of now)) (has_root schema (row_at now 0)) (rise_where number_of 0 now k.rises)
+    and_from (rise (map number_of now) && has_root schema (row_at now 0)) (list_all (λ (e : RowEntry). has_kind schema e.row && places_fit schema now e.row) now)
+    (and_from (rise (map number_of now)) (has_root schema (row_at now 0)) (rise_where number_of 0 now k.rises)
     (root_now schema client now ours k.client_kind (k.stays 0 (rows_root schema client ours))))
     (all_rows (λ (e : RowEntry). has_kind schema e.row && places_fit schema now e.row) now k.rises (row_kept schema client goal now ours theirs k))

@@ -24,6 +24,7 @@ use Rattle.wire_laws.proofs.NamedNumbers.{named_held, held_named}
 use Rattle.wire_laws.proofs.Looks.{Looks, looked, among_both}
 use Rattle.wire_laws.proofs.CommonPhase.{Ready, AreAmong, blocks_for, common_looks, fold-append_blocks, named_both}
 use Rattle.wire_laws.proofs.NewPhase.{Tracks, Arrives, new_looks}
+use Rattle.wire_laws.proofs.Bools.{or_left, or_right, in_either, not_true}
 
 -- ---- rows among themselves
 
@@ -49,10 +50,6 @@ named_first schema new e old_row bs m =
 named_one : (n : ℕ) (es : List Edit) → named_by_blocks (block_of n es) ≡ named_in es
 named_one n es = ap (λ bs. named_by_blocks bs) (sym (append-nil (block_of n es))) ∙ (named_both n es [] ∙ append-nil (named_in es))
 
-either : (a b c : Bool) → (a ≡ true → c ≡ true) → (b ≡ true → c ≡ true) → (a || b) ≡ true → c ≡ true
-either true b c f g h = f refl
-either false b c f g h = g h
-
 block_names : (schema : Schema) (old new : List RowEntry) (e : RowEntry) (old_row : Option Row) (m : ℕ) → Ready schema old new → row_at new e.who ≡ Some e.row
     → is_among m (named_by_blocks (common_block schema new e old_row)) ≡ true → is_live new m ≡ true
 block_names schema old new e None m r is h = cc
@@ -64,17 +61,9 @@ common_names : (schema : Schema) (old new es : List RowEntry) (m : ℕ) → Read
     → is_among m (named_by_blocks (blocks_for schema old new es)) ≡ true → is_live new m ≡ true
 common_names schema old new [] m r among h = cc
 common_names schema old new (e ∷ es) m r among h =
-    either (is_among m (named_by_blocks (common_block schema new e (row_at old e.who)))) (is_among m (named_by_blocks (blocks_for schema old new es))) (is_live new m)
+    in_either (is_among m (named_by_blocks (common_block schema new e (row_at old e.who)))) (is_among m (named_by_blocks (blocks_for schema old new es))) (is_live new m)
     (block_names schema old new e (row_at old e.who) m r among.0) (common_names schema old new es m r among.1)
     (sym (named_first schema new e (row_at old e.who) (blocks_for schema old new es) m) ∙ h)
-
-or_left : (a b : Bool) → a ≡ true → (a || b) ≡ true
-or_left true b h = refl
-or_left false b h = cc
-
-or_right : (a b : Bool) → b ≡ true → (a || b) ≡ true
-or_right true b h = refl
-or_right false b h = h
 
 -- what the operations on one row name, all of the blocks name
 names_one : (schema : Schema) (old new es : List RowEntry) (e : RowEntry) (a : Row) (n m : ℕ) → find number_of n es ≡ Some e → row_at old e.who ≡ Some a
@@ -97,10 +86,6 @@ names_one schema old new (x ∷ es) e a n m f is h =
         subst (λ y. is_among m (named_by_blocks (common_block schema new y (row_at old y.who))) ≡ true) (sym same) told
 
 -- ---- the two phases
-
-not_true : (b : Bool) → (b ≡ true → ⊥) → b ≡ false
-not_true true f = absurd (f refl)
-not_true false f = refl
 
 first_row : (o : Option Row) (live : Bool) → live ≡ is_some o → o ≡ cond live o None
 first_row None live h = rw h refl

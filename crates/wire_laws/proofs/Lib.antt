@@ -1,3 +1,4 @@
+pub mod Bools
 pub mod Forms
 pub mod Values
 pub mod Runs
@@ -15,7 +16,6 @@ pub mod OneBlock
 pub mod EditSteps
 pub mod EditedForm
 pub mod EditedPlaces
-pub mod EditedHeld
 pub mod Origins
 pub mod FormedRows
 pub mod Looks

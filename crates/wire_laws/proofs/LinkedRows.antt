@@ -22,6 +22,7 @@ use Rattle.wire_model.specs.declared.op.OpKey.TheVariants.{Field, Item, Named}
 use Rattle.wire_model.specs.Edits.{Edit, Clear, Carried, Plain, Linked}
 use Rattle.wire_model.specs.Effect.{carried_by, with_linked, with_named}
 use Rattle.wire_model.specs.Patch.{kind_in, carried, changed_place, place_edit, field_value, map_item, item_value, item_key, set_value, slot_edits, same_values, kept_of, gone_of, drop_edit, push_edit, ref_edits, row_edits, whole_start, whole_edits, linked_number, named_in}
+use Rattle.state_laws.proofs.Numbers.{live_row}
 
 -- ---- the kinds of what is carried
 
@@ -119,11 +120,6 @@ pub whole_carries : (schema : Schema) (rows : List RowEntry) (r : Row) → Carri
 whole_carries schema rows r = CarriesKinds-append rows (whole_start r) (row_edits schema rows (emptied r) r) (start_carries rows r) (row_carries schema rows (emptied r) r)
 
 -- ---- rows, looked up
-
--- a number is live where it has a row
-pub live_row : (rows : List RowEntry) (n : ℕ) → is_live rows n ≡ is_some (row_at rows n)
-live_row [] n = refl
-live_row (e ∷ es) n = grind (arith, nat_tests, live_row es n)
 
 -- a number that isn't live has no row
 pub missing_row : (rows : List RowEntry) (n : ℕ) → is_live rows n ≡ false → row_at rows n ≡ None

@@ -18,7 +18,10 @@ use Rattle.wire_laws.proofs.LinkedRows.{CarriesKinds, whole_carries}
 use Rattle.wire_laws.proofs.NamedNumbers.{whole_held, held_whole}
 use Rattle.wire_laws.proofs.RowLaw.{whole_law}
 use Rattle.wire_laws.proofs.Looks.{Looks, looked, one_more, block_looks, among_both, some_of}
-use Rattle.wire_laws.proofs.CommonPhase.{Ready, closed_opened, fold-append_blocks, looks_same, already}
+use Rattle.wire_laws.proofs.CommonPhase.{Ready, fold-append_blocks, looks_same, already}
+use Rattle.std.proofs.lemmas.Option.{same_Some}
+use Rattle.wire_laws.proofs.Bools.{or_right, in_either, neither, same_bool}
+use Rattle.wire_laws.proofs.EditSteps.{closed_opened}
 
 -- ---- the next number
 
@@ -162,10 +165,6 @@ worked_of : (w live : Bool) → (w || live) ≡ true → (live ≡ true → w �
 worked_of true live h f = refl
 worked_of false live h f = f h
 
-in_either : (a b c : Bool) → (a ≡ true → c ≡ true) → (b ≡ true → c ≡ true) → (a || b) ≡ true → c ≡ true
-in_either true b c f g h = f refl
-in_either false b c f g h = g h
-
 -- fuel is spent: all new rows are done
 spent : (old new now : List RowEntry) (worked : ℕ → Bool) (done named : List ℕ) → Looks old new now worked named → Tracks old new worked done named
     → length (undone done new) ≤ 0 → Arrives old new now
@@ -202,10 +201,6 @@ or_moved : (a b c : Bool) → (a || (b || c)) ≡ ((a || b) || c)
 or_moved true b c = refl
 or_moved false b c = refl
 
-or_right : (a b : Bool) → b ≡ true → (a || b) ≡ true
-or_right true b h = refl
-or_right false b h = h
-
 or_four : (here done rest more : Bool) → (done || (here || rest)) ≡ true → ((here || done) || (rest || more)) ≡ true
 or_four true done rest more h = refl
 or_four false true rest more h = refl
@@ -217,24 +212,12 @@ or_done true done rest more h = refl
 or_done false true rest more h = refl
 or_done false false rest more h = cc
 
-neither : (a b : Bool) → (a || b) ≡ false → (a ≡ false) × (b ≡ false)
-neither true b h = cc
-neither false b h = (refl, h)
-
-same_bool : (a b : Bool) → (a ≡ true → b ≡ true) → (b ≡ true → a ≡ true) → a ≡ b
-same_bool true b f g = sym (f refl)
-same_bool false true f g = g refl
-same_bool false false f g = refl
-
 left_out : (done here rest : Bool) → done ≡ false → here ≡ false → (done || (here || rest)) ≡ true → rest ≡ true
 left_out true here rest d h t = cc
 left_out false true rest d h t = cc
 left_out false false rest d h t = t
 
 -- ---- one new row more
-
-same_some : (x y : Row) → Some x ≡ Some y → x ≡ y
-same_some x y h = cc
 
 -- what is tracked, with one new row more
 tracks_more : (schema : Schema) (old new : List RowEntry) (worked : ℕ → Bool) (done named rest : List ℕ) (n : ℕ) (b : Row) → Ready schema old new
@@ -264,7 +247,7 @@ tracks_more schema old new worked done named rest n b r t i is_new = record {
     holds_more a m x w is held =
         let go : (c : Bool) → (n == a) ≡ c → (c || worked a) ≡ true → (is_among m (n ∷ done) || is_among m (rest ++ more)) ≡ true = elim [
           | true ↦ λ c k.
-              let same : x ≡ b = same_some x b (sym is ∙ (ap (row_at new) (sym (eqb-true n a c)) ∙ is_new)) in
+              let same : x ≡ b = same_Some x b (sym is ∙ (ap (row_at new) (sym (eqb-true n a c)) ∙ is_new)) in
               let held_b : is_among m (held_in b) ≡ true = ap (λ y. is_among m (held_in y)) (sym same) ∙ held in
               told m (or_right (is_among m (n ∷ done)) (is_among m rest || is_among m more) (or_right (is_among m rest) (is_among m more) (held_whole schema new b m (r.new_formed n b is_new) held_b)))
           | false ↦ λ c k. told m (holds_old m (t.holds a m x k is held))

@@ -18,7 +18,8 @@ use Rattle.state_model.specs.Rows.{held_in, emptied}
 use Rattle.state_model.specs.Places.{same_kind}
 use Rattle.state_model.specs.Reached.{is_among}
 use Rattle.state_laws.proofs.Passing.{list_any_narrower, list_any-flat_map, found_passing}
-use Rattle.state_laws.proofs.Tests.{both, both_true, list_any-map, StandsIn, list_all_wider, all_and_any, all-found}
+use Rattle.std.proofs.lemmas.Bool.{and_parts, and_from}
+use Rattle.state_laws.proofs.Tests.{list_any-map, StandsIn, list_all_wider, all_and_any, all-found}
 use Rattle.wire_model.specs.Effect.{edited_row}
 use Rattle.wire_model.specs.Patch.{row_edits, whole_edits, map_item}
 use Rattle.wire_laws.proofs.Forms.{IsFormed}
@@ -62,12 +63,12 @@ own_places : (p : ℕ → Value → Bool) (q : Value → Bool) (k : ℕ → List
     → ((v : Value) → has_value v r ≡ true → q v ≡ true) → ((n : ℕ) (key : List ℕ) → has_key n key r ≡ true → k n key ≡ true) → all_places p q k r ≡ true
 own_places p q k (Struct class fields) f g h =
     all_own (λ (x : FieldValue). p x.field x.value) fields
-    (λ x s. f x.field x.value (s (λ (y : FieldValue). (y.field == x.field) && same_value y.value x.value) (both _ _ (number_self x.field) (same_self x.value))))
+    (λ x s. f x.field x.value (s (λ (y : FieldValue). (y.field == x.field) && same_value y.value x.value) (and_from _ _ (number_self x.field) (same_self x.value))))
 own_places p q k (Map home items) f g h =
     all_own (λ (x : MapItem). q x.value && k x.number x.key) items
-    (λ x s. both (q x.value) (k x.number x.key)
+    (λ x s. and_from (q x.value) (k x.number x.key)
     (g x.value (list_any-map (λ u. same_value u x.value) (λ (y : MapItem). y.value) items ∙ s (λ (y : MapItem). same_value y.value x.value) (same_self x.value)))
-    (h x.number x.key (s (λ (y : MapItem). (y.number == x.number) && bytes_eq y.key x.key) (both _ _ (number_self x.number) (bytes_eq_self x.key)))))
+    (h x.number x.key (s (λ (y : MapItem). (y.number == x.number) && bytes_eq y.key x.key) (and_from _ _ (number_self x.number) (bytes_eq_self x.key)))))
 own_places p q k (Array home values) f g h = all_own q values (λ v s. g v (s (λ u. same_value u v) (same_self v)))
 own_places p q k (Set home items) f g h =
     all_own (λ (x : SetItem). q x.value) items
@@ -130,7 +131,7 @@ field_holds : (i : ℕ) (v : Value) (m : ℕ) → is_among m (held_by v) ≡ tru
 field_holds i v m t (Struct class fields) h =
     value_holds v m t (map (λ (f : FieldValue). f.value) fields)
     (list_any-map (λ u. same_value u v) (λ (f : FieldValue). f.value) fields
-    ∙ list_any_narrower (λ (f : FieldValue). (f.field == i) && same_value f.value v) (λ (f : FieldValue). same_value f.value v) fields (λ f e. (both_true (f.field == i) (same_value f.value v) e).1) h)
+    ∙ list_any_narrower (λ (f : FieldValue). (f.field == i) && same_value f.value v) (λ (f : FieldValue). same_value f.value v) fields (λ f e. (and_parts (f.field == i) (same_value f.value v) e).1) h)
 field_holds i v m t (Map home items) h = absurd cc
 field_holds i v m t (Array home values) h = absurd cc
 field_holds i v m t (Set home items) h = absurd cc
@@ -165,7 +166,7 @@ module _ (a b : Option Row) (m : ℕ) where
       all_and_any
       (λ (i : MapItem). (some_row (has_value i.value) a || some_row (has_value i.value) b) && (some_row (has_key i.number i.key) a || some_row (has_key i.number i.key) b))
       (λ (i : MapItem). is_among m (held_by i.value)) items either_holds
-      (λ i p q. either_value i.value (both_true (some_row (has_value i.value) a || some_row (has_value i.value) b) (some_row (has_key i.number i.key) a || some_row (has_key i.number i.key) b) p).0 q)
+      (λ i p q. either_value i.value (and_parts (some_row (has_value i.value) a || some_row (has_value i.value) b) (some_row (has_key i.number i.key) a || some_row (has_key i.number i.key) b) p).0 q)
       h (item_holding (λ (i : MapItem). i.value) m items t)
   held_from (Array home values) h t =
       all_and_any (λ v. some_row (has_value v) a || some_row (has_value v) b) (λ v. is_among m (held_by v)) values either_holds either_value h
@@ -185,7 +186,7 @@ pub from_key : (a b : Option Row) (home : Home) (items : List MapItem) (n : ℕ)
 from_key a b home items n i h f =
     let passes = all-found (λ (j : MapItem). j.number)
     (λ (j : MapItem). (some_row (has_value j.value) a || some_row (has_value j.value) b) && (some_row (has_key j.number j.key) a || some_row (has_key j.number j.key) b)) items n i h f in
-    let two = both_true (some_row (has_value i.value) a || some_row (has_value i.value) b) (some_row (has_key i.number i.key) a || some_row (has_key i.number i.key) b) passes in
+    let two = and_parts (some_row (has_value i.value) a || some_row (has_value i.value) b) (some_row (has_key i.number i.key) a || some_row (has_key i.number i.key) b) passes in
     let number : i.number ≡ n = find_key (λ (j : MapItem). j.number) n items i f in
     subst (λ k. (some_row (has_key k i.key) a || some_row (has_key k i.key) b) ≡ true) number two.1
 
@@ -195,7 +196,7 @@ pub has_key_item : (n : ℕ) (key : List ℕ) (r : Row) (schema : Schema) → Is
 has_key_item n key (Struct class fields) schema f h = absurd cc
 has_key_item n key (Map home items) schema f h =
     let found = found_passing (λ (i : MapItem). i.number) (λ (i : MapItem). (i.number == n) && bytes_eq i.key key) 0 items f.0 h in
-    let two = both_true (found.0.number == n) (bytes_eq found.0.key key) found.2 in
+    let two = and_parts (found.0.number == n) (bytes_eq found.0.key key) found.2 in
     let number : found.0.number ≡ n = eqb-true found.0.number n two.0 in
     (home, items, found.0, refl, subst (λ k. map_item items k ≡ Some found.0) number found.1, same_bytes found.0.key key two.1)
 has_key_item n key (Array home values) schema f h = absurd cc

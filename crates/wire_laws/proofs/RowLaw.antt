@@ -17,6 +17,7 @@ use Rattle.wire_laws.proofs.PlaceRuns.{field_run, set_run}
 use Rattle.wire_laws.proofs.MapRuns.{map_run}
 use Rattle.wire_laws.proofs.SlotRuns.{slot_run}
 use Rattle.wire_laws.proofs.RefRuns.{ref_run}
+use Rattle.wire_laws.proofs.NamedNumbers.{emptied_kind}
 
 -- homes that the test takes for equal are equal
 same_home_is : (a b : Home) → same_home a b ≡ true → a ≡ b
@@ -48,15 +49,8 @@ row_law schema rows a b k c d s = cc
 same_home_self : (a : Home) → same_home a a ≡ true
 same_home_self a = grind (arith, nat_tests)
 
--- a row without its places is of the same kind
-emptied_kind : (r : Row) → same_kind (emptied r) r ≡ true
-emptied_kind (Struct c fields) = grind (arith, nat_tests)
-emptied_kind (Map home items) = same_home_self home
-emptied_kind (Array home values) = same_home_self home
-emptied_kind (Set home items) = same_home_self home
-
 -- a row without its places is formed
-emptied_formed : (schema : Schema) (r : Row) → IsFormed schema (emptied r)
+pub emptied_formed : (schema : Schema) (r : Row) → IsFormed schema (emptied r)
 emptied_formed schema (Struct c fields) = tt
 emptied_formed schema (Map home items) = (tt, refl)
 emptied_formed schema (Array home values) = λ t. (refl, refl)

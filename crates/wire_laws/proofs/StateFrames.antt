@@ -35,6 +35,8 @@ use Rattle.wire_laws.proofs.OriginLaws.{from_held, from_key, has_key_item}
 use Rattle.wire_laws.proofs.KeptRows.{kept_rows_of}
 use Rattle.wire_laws.proofs.Keeping.{IsGoal, blocks_kept, patch_leads_all, kept_at_first}
 use Rattle.wire_laws.proofs.Leads.{patch_leads}
+use Rattle.std.proofs.lemmas.Option.{same_Some}
+use Rattle.wire_laws.proofs.Bools.{not_true}
 
 -- ---- two views
 
@@ -49,16 +51,13 @@ view_kind schema rows M n p rises is =
     let from = permitted_from schema rows M n p rises is in
     (from.0, from.1, ap emptied from.2 ∙ shown_kind schema M n from.0)
 
-same_some : (x y : Row) → Some x ≡ Some y → x ≡ y
-same_some x y h = cc
-
 -- two views of one state have rows of the same kinds
 views_kind : (schema : Schema) (rows : List RowEntry) (M N : List Pair) (n : ℕ) (a b : Row) → RisesFrom number_of 0 rows
     → row_at (permitted schema rows M) n ≡ Some a → row_at (permitted schema rows N) n ≡ Some b → emptied a ≡ emptied b
 views_kind schema rows M N n a b rises is_a is_b =
     let x = view_kind schema rows M n a rises is_a in
     let y = view_kind schema rows N n b rises is_b in
-    x.2 ∙ (ap emptied (same_some x.0 y.0 (sym x.1 ∙ y.1)) ∙ sym y.2)
+    x.2 ∙ (ap emptied (same_Some x.0 y.0 (sym x.1 ∙ y.1)) ∙ sym y.2)
 
 -- views of states that agree have rows of the same kinds
 agreeing_kind : (schema : Schema) (old new : List RowEntry) (M N : List Pair) (n : ℕ) (a b : Row) → RisesFrom number_of 0 old → RisesFrom number_of 0 new → Agree old new
@@ -229,10 +228,6 @@ left_holds schema old new M N now n m a old_rises new_rises k is held =
     outside_row true o a h = cc
     outside_row false o a h = (refl, h)
 
-    not_true : (b : Bool) → (b ≡ true → ⊥) → b ≡ false
-    not_true true f = absurd (f refl)
-    not_true false f = refl
-
     not_shared : (n : ℕ) → is_live (permitted schema new N) n ≡ false → is_live (shared schema new) n ≡ false
     not_shared n gone = not_true (is_live (shared schema new) n) (λ live.
         let s = at_live (shared schema new) n live in
@@ -317,13 +312,13 @@ root_follows schema new sound =
     alone : (n : ℕ) (a : Row) → row_at (root_alone schema) n ≡ Some a → (0 ≡ n) × (a ≡ Struct schema.root [])
     alone n a is =
         let go : (b : Bool) → (0 == n) ≡ b → option_map (λ (e : RowEntry). e.row) (cond b (Some (record { who = 0; row = Struct schema.root [] })) None) ≡ Some a
-        → (0 ≡ n) × (a ≡ Struct schema.root []) = elim [ true ↦ λ t h. (eqb-true 0 n t, same_some a (Struct schema.root []) (sym h)) | false ↦ λ t h. absurd (cc) ] in
+        → (0 ≡ n) × (a ≡ Struct schema.root []) = elim [ true ↦ λ t h. (eqb-true 0 n t, same_Some a (Struct schema.root []) (sym h)) | false ↦ λ t h. absurd (cc) ] in
         go (0 == n) refl is
 
     kinds : (fields : List FieldValue) → row_at new 0 ≡ Some (Struct schema.root fields) → (n : ℕ) (a b : Row) → row_at (root_alone schema) n ≡ Some a → row_at new n ≡ Some b → same_kind a b ≡ true
     kinds fields root n a b is_a is_b =
         let one = alone n a is_a in
-        let same : b ≡ Struct schema.root fields = same_some b (Struct schema.root fields) (sym is_b ∙ (ap (row_at new) (sym one.0) ∙ root)) in
+        let same : b ≡ Struct schema.root fields = same_Some b (Struct schema.root fields) (sym is_b ∙ (ap (row_at new) (sym one.0) ∙ root)) in
         ap (λ x. same_kind x b) one.1 ∙ (ap (same_kind (Struct schema.root [])) same ∙ same_number schema.root)
 
     keys : (n : ℕ) (a b : Row) → row_at (root_alone schema) n ≡ Some a → SameKeys a b
