@@ -8,3 +8,4 @@ pub mod AppliedRows
 pub mod EditRows
 pub mod PatchRows
 pub mod BlockRows
+pub mod ToldRows

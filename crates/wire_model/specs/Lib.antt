@@ -5,3 +5,4 @@ pub mod Effect
 pub mod Decoded
 pub mod Patch
 pub mod Frame
+pub mod Resolved
