@@ -106,7 +106,7 @@ fits_elsewhere schema rows some (value.Str t) (Some (ACollection home)) k h = h
 fits_elsewhere schema rows some (value.Truth b) (Some (ACollection home)) k h = h
 
 -- no link fits a scalar
-fits_no_link : (s : ScalarKind) (n : ℕ) → fits s (value.Link n) ≡ false
+pub fits_no_link : (s : ScalarKind) (n : ℕ) → fits s (value.Link n) ≡ false
 fits_no_link kind.Number n = refl
 fits_no_link kind.Str n = refl
 fits_no_link kind.Bool n = refl

@@ -10,6 +10,16 @@ pub or_right : (a b : Bool) → b ≡ true → (a || b) ≡ true
 or_right true b h = refl
 or_right false b h = h
 
+-- a test or nothing is that test
+pub or-none : (b : Bool) → b ≡ (b || false)
+or-none true = refl
+or-none false = refl
+
+-- three tests, taken together from either end
+pub or_moved : (a b c : Bool) → ((a || b) || c) ≡ (a || (b || c))
+or_moved true b c = refl
+or_moved false b c = refl
+
 -- what follows from each of two tests follows from either
 pub in_either : (a b c : Bool) → (a ≡ true → c ≡ true) → (b ≡ true → c ≡ true) → (a || b) ≡ true → c ≡ true
 in_either true b c f g h = f refl

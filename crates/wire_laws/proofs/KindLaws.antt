@@ -9,7 +9,7 @@ use Rattle.state_model.specs.Rows.{emptied}
 use Rattle.state_model.specs.Places.{same_kind, same_home}
 
 -- homes that the test takes for one are one
-home_is : (a b : Home) → same_home a b ≡ true → a ≡ b
+pub home_is : (a b : Home) → same_home a b ≡ true → a ≡ b
 home_is a b h =
     let two = and_parts (a.class == b.class) (a.field == b.field) h in
     let class = eqb-true a.class b.class two.0 in

@@ -47,7 +47,7 @@ named_first schema new e old_row bs m =
     ap (is_among m) (flat_map-append (λ (b : EditBlock). named_in b.edits) (common_block schema new e old_row) bs)
     ∙ among_both m (named_by_blocks (common_block schema new e old_row)) (named_by_blocks bs)
 
-named_one : (n : ℕ) (es : List Edit) → named_by_blocks (block_of n es) ≡ named_in es
+pub named_one : (n : ℕ) (es : List Edit) → named_by_blocks (block_of n es) ≡ named_in es
 named_one n es = ap (λ bs. named_by_blocks bs) (sym (append-nil (block_of n es))) ∙ (named_both n es [] ∙ append-nil (named_in es))
 
 block_names : (schema : Schema) (old new : List RowEntry) (e : RowEntry) (old_row : Option Row) (m : ℕ) → Ready schema old new → row_at new e.who ≡ Some e.row

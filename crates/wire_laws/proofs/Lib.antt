@@ -28,3 +28,7 @@ pub mod KindLaws
 pub mod KeptRows
 pub mod Keeping
 pub mod StateFrames
+pub mod ToldValues
+pub mod ToldEdits
+pub mod ToldKnown
+pub mod ToldBlocks

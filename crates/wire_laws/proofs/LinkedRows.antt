@@ -23,6 +23,7 @@ use Rattle.wire_model.specs.Edits.{Edit, Clear, Carried, Plain, Linked}
 use Rattle.wire_model.specs.Effect.{carried_by, with_linked, with_named}
 use Rattle.wire_model.specs.Patch.{kind_in, carried, changed_place, place_edit, field_value, map_item, item_value, item_key, set_value, slot_edits, same_values, kept_of, gone_of, drop_edit, push_edit, ref_edits, row_edits, whole_start, whole_edits, linked_number, named_in}
 use Rattle.state_laws.proofs.Numbers.{live_row}
+use Rattle.wire_laws.proofs.Bools.{or-none}
 
 -- ---- the kinds of what is carried
 
@@ -170,11 +171,6 @@ none_named : (kinds rows : List RowEntry) (n : ℕ) → row_at rows n ≡ named_
 none_named kinds rows n =
     let go : (b : Bool) → is_live rows n ≡ b → row_at rows n ≡ cond b (row_at rows n) None = elim [ true ↦ λ h. refl | false ↦ λ h. missing_row rows n h ] in
     go (is_live rows n) refl
-
--- a truth value or nothing is that value
-or-none : (b : Bool) → b ≡ (b || false)
-or-none true = refl
-or-none false = refl
 
 -- a link to a row that is there
 old_link : (kinds rows : List RowEntry) (j n : ℕ) → is_live rows j ≡ true → row_at rows n ≡ named_row kinds rows (j ∷ []) n

@@ -20,7 +20,7 @@ use Rattle.wire_laws.proofs.RowLaw.{whole_law}
 use Rattle.wire_laws.proofs.Looks.{Looks, looked, one_more, block_looks, among_both, some_of}
 use Rattle.wire_laws.proofs.CommonPhase.{Ready, fold-append_blocks, looks_same, already}
 use Rattle.std.proofs.lemmas.Option.{same_Some}
-use Rattle.wire_laws.proofs.Bools.{or_right, in_either, neither, same_bool}
+use Rattle.wire_laws.proofs.Bools.{or_right, or_moved, in_either, neither, same_bool}
 use Rattle.wire_laws.proofs.EditSteps.{closed_opened}
 
 -- ---- the next number
@@ -197,10 +197,6 @@ settled schema old new now worked done named r reach l t none = record {
 
 -- ---- booleans
 
-or_moved : (a b c : Bool) → (a || (b || c)) ≡ ((a || b) || c)
-or_moved true b c = refl
-or_moved false b c = refl
-
 or_four : (here done rest more : Bool) → (done || (here || rest)) ≡ true → ((here || done) || (rest || more)) ≡ true
 or_four true done rest more h = refl
 or_four false true rest more h = refl
@@ -224,7 +220,7 @@ tracks_more : (schema : Schema) (old new : List RowEntry) (worked : ℕ → Bool
     → Tracks old new worked done named → IsNext done named n rest → row_at new n ≡ Some b
     → Tracks old new (one_more n worked) (n ∷ done) (rest ++ named_in (whole_edits schema new b))
 tracks_more schema old new worked done named rest n b r t i is_new = record {
-  done_is = λ k. ap (λ x. (n == k) || x) (t.done_is k) ∙ or_moved (n == k) (worked k) (is_live old k);
+  done_is = λ k. ap (λ x. (n == k) || x) (t.done_is k) ∙ sym (or_moved (n == k) (worked k) (is_live old k));
   named_new = λ k h.
       in_either (is_among k rest) (is_among k more) (is_live new k) (λ e. t.named_new k (i.behind k e)) (λ e. r.new_links n k b is_new (whole_held schema new b k e))
       (sym (among_both k rest more) ∙ h);

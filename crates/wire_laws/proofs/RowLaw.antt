@@ -12,19 +12,13 @@ use Rattle.state_model.specs.Rows.{emptied}
 use Rattle.state_model.specs.Places.{same_home, same_kind, is_filtered}
 use Rattle.wire_model.specs.Effect.{Slots, effect, closed, edited_row}
 use Rattle.wire_model.specs.Patch.{array_edits, row_edits, whole_edits}
+use Rattle.wire_laws.proofs.KindLaws.{home_is}
 use Rattle.wire_laws.proofs.Forms.{IsFormed, SameKeys}
 use Rattle.wire_laws.proofs.PlaceRuns.{field_run, set_run}
 use Rattle.wire_laws.proofs.MapRuns.{map_run}
 use Rattle.wire_laws.proofs.SlotRuns.{slot_run}
 use Rattle.wire_laws.proofs.RefRuns.{ref_run}
 use Rattle.wire_laws.proofs.NamedNumbers.{emptied_kind}
-
--- homes that the test takes for equal are equal
-same_home_is : (a b : Home) → same_home a b ≡ true → a ≡ b
-same_home_is a b h =
-    let class : a.class ≡ b.class = grind (arith, nat_tests) in
-    let field : a.field ≡ b.field = grind (arith, nat_tests) in
-    ap (λ c. let home : Home = record { class = c; field = a.field } in home) class ∙ ap (λ f. let home : Home = record { class = b.class; field = f } in home) field
 
 -- an array, filtered or not
 array_run : (schema : Schema) (rows : List RowEntry) (home declared : Home) (old new : List Value) → IsFormed schema (Array declared old) → IsFormed schema (Array declared new) → (filtered : Bool) → is_filtered schema declared ≡ filtered
@@ -35,12 +29,12 @@ array_run schema rows home declared old new a b false f = rw f (slot_run schema 
 -- the operations from a row to another of its kind lead to that row
 pub row_law : (schema : Schema) (rows : List RowEntry) (a b : Row) → same_kind a b ≡ true → IsFormed schema a → IsFormed schema b → SameKeys a b → edited_row (row_edits schema rows a b) a ≡ b
 row_law schema rows (Struct c old) (Struct d new) k a b s = let e : c ≡ d = grind (arith, nat_tests) in ap closed (field_run schema rows c d old new a b) ∙ ap (λ n. Struct n new) e
-row_law schema rows (Map c old) (Map d new) k a b s = ap closed (map_run schema rows c d old new a.0 b.0 b.1 s) ∙ ap (λ h. Map h new) (same_home_is c d k)
+row_law schema rows (Map c old) (Map d new) k a b s = ap closed (map_run schema rows c d old new a.0 b.0 b.1 s) ∙ ap (λ h. Map h new) (home_is c d k)
 row_law schema rows (Array c old) (Array d new) k a b s =
-    let e = same_home_is c d k in
+    let e = home_is c d k in
     let old_formed : IsFormed schema (Array d old) = rw e at a in
     array_run schema rows c d old new old_formed b (is_filtered schema d) refl ∙ ap (λ h. Array h new) e
-row_law schema rows (Set c old) (Set d new) k a b s = ap closed (set_run schema rows c d old new a b) ∙ ap (λ h. Set h new) (same_home_is c d k)
+row_law schema rows (Set c old) (Set d new) k a b s = ap closed (set_run schema rows c d old new a b) ∙ ap (λ h. Set h new) (home_is c d k)
 row_law schema rows a b k c d s = cc
 
 -- ---- a whole row

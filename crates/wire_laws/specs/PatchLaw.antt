@@ -11,6 +11,8 @@ use Rattle.state_model.specs.Reached.{reached, is_among, freed, HasNoCycle}
 use Rattle.state_model.specs.Sound.{are_rows_of}
 use Rattle.wire_model.specs.Effect.{apply_edits}
 use Rattle.wire_model.specs.Patch.{patch_edits, map_item}
+use Rattle.wire_model.specs.Frame.{patch}
+use Rattle.wire_model.specs.Resolved.{applied}
 
 -- an item number that both maps have has one key
 abbrev pub SameKeys : Row → Row → Type 0
@@ -37,3 +39,7 @@ pub record Patchable (schema : Schema) (old new : List RowEntry) : Type 0 where
 -- the patch leads from the old rows to the new ones
 abbrev pub PatchLeads : Type 0
 PatchLeads = (schema : Schema) (old new : List RowEntry) → Patchable schema old new → freed (apply_edits (patch_edits schema old new) old) ≡ new
+
+-- and so it does after it was told: its operations carry scalars and numbers of rows alone
+abbrev pub ToldPatchLeads : Type 0
+ToldPatchLeads = (schema : Schema) (old new : List RowEntry) → Patchable schema old new → freed (applied schema old (patch schema old new)) ≡ new
