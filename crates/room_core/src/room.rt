@@ -5,6 +5,7 @@ ghost use Rattle.state_model.specs.declared.command.Command.TheVariants.{Put};
 ghost use Rattle.schema_model.specs.declared.value.Value.TheVariants.{Whole};
 ghost use Rattle.schema_model.specs.Fits.{in_signed};
 ghost use Rattle.state_model.specs.Commands.{do_command};
+ghost use Rattle.state_model.specs.Shown.{permitted as permitted_view};
 ghost use Rattle.room_model.specs.Seats.{has_reservation};
 ghost use Rattle.room_model.specs.Room.{new_room, room_step, after_reserve, after_enter, enter_outs, after_answer, after_tick};
 ghost use Rattle.plain_rows.specs.Numbers.{is_number_schema, AreNumberRows, number_rows, number_count};
@@ -193,12 +194,22 @@ impl Room {
         ensures after { OnOk result (self.new ≡ record { room = (after_tick self.old.room).0; spent = false }) }
     {
         let alloc = self.alloc;
-        let now = permitted(alloc, &self.schema, &self.rows, &[])?;
+        let now = seen_rows(alloc, &self.schema, &self.rows)?;
         let outs = tick_outs(alloc, &self.schema, &self.shared, &now, &self.place)?;
         self.place.phase = ticked(self.place.phase);
         self.shared = now;
         Ok(outs)
     }
+}
+
+// What everybody sees of a row of numbers: all of it.
+fn seen_rows(alloc: Global, schema: &Schema, rows: &Rows) -> Result<Rows, Memory>
+    requires schema { IsTrue (is_number_schema schema.now) }
+    requires rows { AreNumberRows schema.now rows.now }
+    ensures view { IfOk result (λ seen. seen ≡ permitted_view schema.now rows.now []) }
+    ensures whole { IfOk result (λ seen. seen ≡ rows.now) }
+{
+    permitted(alloc, schema, rows, &[])
 }
 
 // The field and the number of a put.

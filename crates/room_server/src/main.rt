@@ -9,6 +9,7 @@ mod task;
 #[cfg(test)]
 mod tests;
 
+use ending::Ending;
 use lists::{Memory, Seq, Text};
 use outside::{ListIds, MemWire, StdClock, StdSink, StdSource};
 use room_model::Words;
@@ -16,9 +17,6 @@ use run::run;
 use schema_model::Id;
 use std::process::ExitCode;
 use std::{env, io};
-
-/// The status for want of memory.
-const OUT_OF_MEMORY: u8 = 7;
 
 // The words behind the program's name. Words that aren't UTF-8 are no command's, as no words are.
 fn words(rt: &HostRuntime) -> Result<Words, Memory> {
@@ -37,7 +35,7 @@ fn words(rt: &HostRuntime) -> Result<Words, Memory> {
 
 fn main(rt: HostRuntime) -> ExitCode {
     let Ok(words) = words(&rt) else {
-        return ExitCode::from(OUT_OF_MEMORY);
+        return ExitCode::from(Ending::Memory.status());
     };
     let alloc = rt.alloc();
     let status = run(

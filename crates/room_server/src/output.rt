@@ -1,6 +1,7 @@
 //! Writing lines to a sink.
 ghost use Rattle.std.specs.Prelude.{◌≡◌, [], ◌∷◌, IfOk, codes};
 ghost use Rattle.std.specs.List.{flat_map};
+ghost use Rattle.outside.specs.Faults.{HasCause};
 ghost use Rattle.text_model.specs.Marks.{line, lines};
 ghost use Rattle.text_model.specs.Outputs.{out_line};
 ghost use Rattle.text_model.specs.Paths.{schema_lines};
@@ -46,13 +47,12 @@ impl From<Memory> for WriteFault {
     }
 }
 
-/// Writes the line that says how the program is used.
-pub fn write_usage<K: Sink>(sink: &mut K) -> Result<(), WriteFault>
+/// Writes the line that says how the program is used. It takes no memory.
+pub fn write_usage<K: Sink>(sink: &mut K) -> Result<(), Failed>
     ensures writes { Writes (K.taken sink.old) (K.taken sink.new) usage_line result }
-    ensures cause { HasWriteCause (K.faults sink.old) (K.faults sink.new) result }
+    ensures cause { HasCause (K.faults sink.old) (K.faults sink.new) result }
 {
-    write_all(sink, USAGE)?;
-    Ok(())
+    write_all(sink, USAGE)
 }
 
 /// Writes the line of a fault: the number of the line where it stands, and its word.

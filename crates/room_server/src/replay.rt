@@ -59,7 +59,7 @@ fn replay_text<K: Sink>(alloc: Global, text: &[u8], sink: &mut K) -> Ending
 }
 
 /// How a command ends that was to end so where all was written.
-pub fn ended(outcome: Result<(), WriteFault>, whole: Ending) -> Ending
+fn ended(outcome: Result<(), WriteFault>, whole: Ending) -> Ending
     ensures { result ≡ ended_as outcome whole }
 {
     match outcome {

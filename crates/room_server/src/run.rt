@@ -11,9 +11,9 @@ ghost use Rattle.room_server.specs.declared.task.Task.TheVariants.{Replay};
 
 use crate::ending::Ending;
 use crate::output::write_usage;
-use crate::replay::{ended, replay};
+use crate::replay::replay;
 use crate::task::{Task, read_words};
-use outside::{Clock, Ids, Sink, Source, Wire};
+use outside::{Clock, Failed, Ids, Sink, Source, Wire};
 use room_model::Words;
 use std::alloc::Global;
 
@@ -52,14 +52,15 @@ pub fn run<S: Source, K: Sink, W: Wire, C: Clock, I: Ids>(
     ensures front { (text : List ℕ) × IfSome (S.left source.old) (λ all. all ≡ text)
         × TakesFront (K.taken sink.old) (K.taken sink.new) (output_for (task_of words.now) text) }
 
-    // Where no count rose and memory didn't run out, the words and the text decide the status.
-    ensures usage_always { task_of words.now ≡ None → (Rose (K.faults sink.old) (K.faults sink.new) → ⊥) → (result ≡ 2) ⊎ (result ≡ 7) }
+    // Where no count rose, words that are no command's get 2; and where memory didn't run out either, a text decides the status.
+    ensures usage_always { task_of words.now ≡ None → (Rose (K.faults sink.old) (K.faults sink.new) → ⊥) → result ≡ 2 }
     ensures done_always { task_of words.now ≡ Some Replay → IfSome (S.left source.old) (λ text. (parts : Path) → IsTextOf text parts → length text ≤ 2 ^ 24
         → IsQuiet (S.faults source.old) (S.faults source.new) (K.faults sink.old) (K.faults sink.new) → (result ≡ 0) ⊎ (result ≡ 7)) }
     ensures refused_always { task_of words.now ≡ Some Replay → IfSome (S.left source.old) (λ text. IsNoSchedule text
         → IsQuiet (S.faults source.old) (S.faults source.new) (K.faults sink.old) (K.faults sink.new) → (result ≡ 3) ⊎ (result ≡ 7)) }
 
-    // At most 16 MiB and one byte are read.
+    // Nothing is read for words that are no command's, and of a text at most 16 MiB and one byte.
+    ensures unread { task_of words.now ≡ None → source.new ≡ source.old }
     ensures bound { (bytes : List ℕ) × (length bytes ≤ 2 ^ 24 + 1) × Reads (S.left source.old) (S.left source.new) bytes }
 
     // No count of faults falls, and the wire, the clock and the ids are as they were.
@@ -75,6 +76,8 @@ pub fn run<S: Source, K: Sink, W: Wire, C: Clock, I: Ids>(
 /// Does what the words call for.
 fn answer<S: Source, K: Sink>(alloc: Global, words: &Words, source: &mut S, sink: &mut K) -> Ending
     ensures ends { IsEnded (task_of words.now) (S.left source.old) (S.left source.new) (K.taken sink.old) (K.taken sink.new) result }
+    ensures usage { task_of words.now ≡ None → (result ≡ ending.Usage) ⊎ (result ≡ ending.WriteFailed) }
+    ensures unread { task_of words.now ≡ None → source.new ≡ source.old }
     ensures bound { (bytes : List ℕ) × (length bytes ≤ 2 ^ 24 + 1) × Reads (S.left source.old) (S.left source.new) bytes }
     ensures read_later { S.faults source.old ≤ S.faults source.new }
     ensures read_cause { result ≡ ending.ReadFailed → Rose (S.faults source.old) (S.faults source.new) }
@@ -84,6 +87,9 @@ fn answer<S: Source, K: Sink>(alloc: Global, words: &Words, source: &mut S, sink
     match read_words(words) {
         Some(Task::Replay) => replay(alloc, source, sink),
         Some(Task::Serve { .. } | Task::View { .. } | Task::Make { .. }) => unreachable!(),
-        None => ended(write_usage(sink), Ending::Usage),
+        None => match write_usage(sink) {
+            Ok(()) => Ending::Usage,
+            Err(Failed) => Ending::WriteFailed,
+        },
     }
 }
