@@ -1,4 +1,6 @@
 pub mod ClassRows
 pub mod FieldCounts
+pub mod FieldTables
+pub mod KindLines
 pub mod NumberAgain
 pub mod ScalarRows

@@ -4,6 +4,7 @@
 pub mod class;
 pub mod fault;
 mod kept;
+mod lookup;
 pub mod number;
 pub mod place;
 pub mod scalar;
