@@ -10,7 +10,7 @@ ghost use Rattle.state_model.specs.Rows.{row_at};
 ghost use Rattle.wire_model.specs.Patch.{field_value};
 ghost use Rattle.wire_model.specs.Frame.{patch as patch_of, state_frame, has_operation};
 ghost use Rattle.wire_model.specs.OpBytes.{block_bytes};
-ghost use Rattle.wire_ops.specs.NumberBlocks.{are_number_blocks};
+ghost use Rattle.wire_ops.specs.Writable.{are_writable};
 ghost use Rattle.plain_rows.specs.Numbers.{is_number_schema, AreNumberRows, is_number_at, number_count, number_rows, AreNumbers};
 ghost use Rattle.canon_patch.specs.NumberPatch.{number_op, number_ops, root_block};
 
@@ -31,7 +31,7 @@ pub fn patch(alloc: Global, schema: &Schema, old: &Rows, new: &Rows) -> Result<B
         state_frame schema.now old.now old.now new.now new.now ≡ block_bytes blocks true) }
     ensures operation { IfOk result (λ blocks.
         has_operation schema.now old.now old.now new.now new.now ≡ not (length blocks == 0)) }
-    ensures written { IfOk result (λ blocks. IsTrue (are_number_blocks blocks)) }
+    ensures written { IfOk result (λ blocks. IsTrue (are_writable blocks)) }
 {
     let count = field_count(schema);
     let ops = field_ops(alloc, count, root_fields(old), root_fields(new))?;

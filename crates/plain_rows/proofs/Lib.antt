@@ -1,2 +1,9 @@
 pub mod NumberViews
 pub mod NumberCommands
+pub mod Lists
+pub mod NumberSets
+pub mod Walks
+pub mod MemberKeys
+pub mod KeptItems
+pub mod ViewTables
+pub mod Freeing

@@ -1,1 +1,5 @@
+pub mod Counts
+pub mod Links
+pub mod Members
 pub mod Numbers
+pub mod Views

@@ -3,7 +3,7 @@ ghost use Rattle.frame_model.specs.Frames.{server_bytes};
 ghost use Rattle.frame_model.specs.declared.frame.ServerFrame.TheVariants as server;
 ghost use Rattle.wire_model.specs.Frame.{full_state, state_frame, has_operation};
 ghost use Rattle.wire_model.specs.OpBytes.{block_bytes};
-ghost use Rattle.wire_ops.specs.NumberBlocks.{are_number_blocks};
+ghost use Rattle.wire_ops.specs.Writable.{are_writable};
 ghost use Rattle.room_model.specs.Room.{join_frame as join_bytes};
 ghost use Rattle.plain_rows.specs.Numbers.{is_number_schema, AreNumberRows};
 ghost use Rattle.room_core.specs.Values.{patch_of};
@@ -62,7 +62,7 @@ pub fn patch_frame(
 
 // A state frame with this code.
 fn state_bytes(alloc: Global, code: u8, blocks: &Blocks) -> Result<Bytes, Memory>
-    requires { IsTrue (are_number_blocks blocks.now) }
+    requires { IsTrue (are_writable blocks.now) }
     ensures { IfOk result (λ bytes. bytes ≡ code ∷ block_bytes blocks.now true) }
 {
     let mut frame = Vec::new(alloc);

@@ -1,2 +1,3 @@
 pub mod NumberBlocks
+pub mod Writable
 pub mod Fronts

@@ -1,5 +1,5 @@
 -- Blocks that only set and take away fields with numbers.
-use Rattle.std.specs.Prelude.{ℕ, ◌^◌, Bool, true, false, ◌&&◌, List, nat_lt}
+use Rattle.std.specs.Prelude.{◌^◌, Bool, false, ◌&&◌, List, nat_lt}
 use Rattle.std.specs.List.{list_all}
 use Rattle.schema_model.specs.Fits.{in_signed}
 use Rattle.schema_model.specs.declared.scalar.ScalarKind.TheVariants as kind

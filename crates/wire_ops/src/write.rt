@@ -1,18 +1,17 @@
-ghost use Rattle.std.specs.Prelude.{◌≡◌, ◌++◌, ◌+◌, ◌^◌, ◌<◌, ◌≤◌, OnOk, OnErr, IsTrue, [], ◌∷◌, pos};
+ghost use Rattle.std.specs.Prelude.{◌≡◌, ◌++◌, ◌≤◌, OnOk, OnErr, IsTrue, ◌∷◌};
 ghost use Rattle.std.specs.List.{flat_map, list_all};
-ghost use Rattle.schema_model.specs.Spelling.{number_bytes};
-ghost use Rattle.wire_model.specs.OpBytes.{block_bytes, first_block, whole_block, op_bytes, head_bytes, value_bytes, switch_bytes};
+ghost use Rattle.wire_model.specs.OpBytes.{block_bytes, first_block, whole_block, op_bytes, head_bytes, value_bytes, count_bytes, mark_bytes, link_number};
 ghost use Rattle.wire_ops.specs.Fronts.{IsFrontOf};
-ghost use Rattle.wire_ops.specs.NumberBlocks.{are_number_blocks, is_number_block, is_number_op, is_number_value, is_field_key};
+ghost use Rattle.wire_ops.specs.Writable.{are_writable, is_writable, is_writable_op, is_count, is_type, is_place, is_carried, is_instance};
 
-use scalar_codec::put_number;
-use schema_model::{Memory, RefNum, ScalarKind, Value};
+use scalar_codec::{put_number, put_scalar, put_text};
+use schema_model::{Memory, TypeNum};
 use wire_model::{Block, Blocks, Op, OpKey, OpValue};
 
-/// Appends the bytes of blocks that set and take away fields with numbers. With `bare_root` a first block
-/// of holder 0 has no switch. An `Err` leaves `out` as it was.
+/// Appends the bytes of blocks. With `bare_root` a first block of holder 0 has no switch. An `Err` leaves
+/// `out` as it was.
 pub fn write_blocks(out: &mut Vec<u8>, blocks: &Blocks, bare_root: bool) -> Result<(), Memory>
-    requires { IsTrue (are_number_blocks blocks.now) }
+    requires { IsTrue (are_writable blocks.now) }
     ensures ok { OnOk result (out.new.items ≡ out.old.items ++ block_bytes blocks.now bare_root) }
     ensures err { OnErr result (out.new.items ≡ out.old.items) }
 {
@@ -25,7 +24,7 @@ pub fn write_blocks(out: &mut Vec<u8>, blocks: &Blocks, bare_root: bool) -> Resu
 }
 
 fn put_blocks(out: &mut Vec<u8>, blocks: &[Block], bare_root: bool) -> Result<(), Memory>
-    requires { IsTrue (are_number_blocks blocks.now) }
+    requires { IsTrue (are_writable blocks.now) }
     ensures ok { OnOk result (out.new.items ≡ out.old.items ++ block_bytes blocks.now bare_root) }
     ensures front { IsFrontOf out.old.items out.new.items }
 {
@@ -39,7 +38,7 @@ fn put_blocks(out: &mut Vec<u8>, blocks: &[Block], bare_root: bool) -> Result<()
 }
 
 fn put_first_block(out: &mut Vec<u8>, block: &Block, bare: bool) -> Result<(), Memory>
-    requires { IsTrue (is_number_block block.now) }
+    requires { IsTrue (is_writable block.now) }
     ensures ok { OnOk result (out.new.items ≡ out.old.items ++ first_block bare block.now) }
     ensures front { IsFrontOf out.old.items out.new.items }
 {
@@ -51,7 +50,7 @@ fn put_first_block(out: &mut Vec<u8>, block: &Block, bare: bool) -> Result<(), M
 }
 
 fn put_whole_blocks(out: &mut Vec<u8>, blocks: &[Block]) -> Result<(), Memory>
-    requires { IsTrue (are_number_blocks blocks.now) }
+    requires { IsTrue (are_writable blocks.now) }
     ensures ok { OnOk result (out.new.items ≡ out.old.items ++ flat_map whole_block blocks.now) }
     ensures front { IsFrontOf out.old.items out.new.items }
 {
@@ -62,25 +61,16 @@ fn put_whole_blocks(out: &mut Vec<u8>, blocks: &[Block]) -> Result<(), Memory>
 }
 
 fn put_whole_block(out: &mut Vec<u8>, block: &Block) -> Result<(), Memory>
-    requires { IsTrue (is_number_block block.now) }
+    requires { IsTrue (is_writable block.now) }
     ensures ok { OnOk result (out.new.items ≡ out.old.items ++ whole_block block.now) }
     ensures front { IsFrontOf out.old.items out.new.items }
 {
-    put_switch(out, block.holder)?;
+    put_numbered(out, 255, block.holder.0)?;
     put_ops(out, block.ops.as_slice())
 }
 
-fn put_switch(out: &mut Vec<u8>, holder: RefNum) -> Result<(), Memory>
-    requires { holder < 2 ^ 31 }
-    ensures ok { OnOk result (out.new.items ≡ out.old.items ++ switch_bytes holder) }
-    ensures front { IsFrontOf out.old.items out.new.items }
-{
-    out.push(255)?;
-    put_number(out, holder.0 as i32)
-}
-
 fn put_ops(out: &mut Vec<u8>, ops: &[Op]) -> Result<(), Memory>
-    requires { IsTrue (list_all is_number_op ops.now) }
+    requires { IsTrue (list_all is_writable_op ops.now) }
     ensures ok { OnOk result (out.new.items ≡ out.old.items ++ flat_map op_bytes ops.now) }
     ensures front { IsFrontOf out.old.items out.new.items }
 {
@@ -91,22 +81,28 @@ fn put_ops(out: &mut Vec<u8>, ops: &[Op]) -> Result<(), Memory>
 }
 
 fn put_op(out: &mut Vec<u8>, op: &Op) -> Result<(), Memory>
-    requires { IsTrue (is_number_op op.now) }
+    requires { IsTrue (is_writable_op op.now) }
     ensures ok { OnOk result (out.new.items ≡ out.old.items ++ op_bytes op.now) }
     ensures front { IsFrontOf out.old.items out.new.items }
 {
     match op {
-        Op::Add(key, value) => put_field(out, 128, key, value),
-        Op::Replace(key, value) => put_field(out, 0, key, value),
+        Op::Add(key, value) => put_valued(out, 128, key, value),
+        Op::Replace(key, value) => put_valued(out, 0, key, value),
+        Op::DeleteAdd(key, value) => put_valued(out, 192, key, value),
         Op::Delete(key) => put_head(out, 64, key),
-        _ => unreachable!(),
+        Op::Clear => {
+            out.push(10)?;
+            Ok(())
+        }
+        Op::AddByRef(value) => put_added_instance(out, value),
+        Op::DeleteByRef(who) => put_numbered(out, 33, who.0),
     }
 }
 
-fn put_field(out: &mut Vec<u8>, code: u8, key: &OpKey, value: &OpValue) -> Result<(), Memory>
-    requires code { code ≤ 128 }
-    requires key { IsTrue (is_field_key key.now) }
-    requires value { IsTrue (is_number_value value.now) }
+fn put_valued(out: &mut Vec<u8>, code: u8, key: &OpKey, value: &OpValue) -> Result<(), Memory>
+    requires code { code ≤ 192 }
+    requires key { IsTrue (is_place key.now) }
+    requires value { IsTrue (is_carried value.now) }
     ensures ok { OnOk result (out.new.items ≡ out.old.items ++ (head_bytes code key.now ++ value_bytes value.now)) }
     ensures front { IsFrontOf out.old.items out.new.items }
 {
@@ -114,10 +110,24 @@ fn put_field(out: &mut Vec<u8>, code: u8, key: &OpKey, value: &OpValue) -> Resul
     put_value(out, value)
 }
 
-// The byte of an operation on a field: the code and the field's index.
+// The number of an instance stands in front of the whole value, which begins with it again.
+fn put_added_instance(out: &mut Vec<u8>, value: &OpValue) -> Result<(), Memory>
+    requires instance { IsTrue (is_instance value.now) }
+    requires value { IsTrue (is_carried value.now) }
+    ensures ok { OnOk result (out.new.items ≡ out.old.items ++ (129 ∷ (count_bytes (link_number value.now) ++ value_bytes value.now))) }
+    ensures front { IsFrontOf out.old.items out.new.items }
+{
+    let OpValue::Struct(who, _) = value else {
+        unreachable!()
+    };
+    put_numbered(out, 129, who.0)?;
+    put_value(out, value)
+}
+
+// The code with its place. On an instance the two are one byte: the code and the field's index.
 fn put_head(out: &mut Vec<u8>, code: u8, key: &OpKey) -> Result<(), Memory>
-    requires code { code ≤ 128 }
-    requires key { IsTrue (is_field_key key.now) }
+    requires code { code ≤ 192 }
+    requires key { IsTrue (is_place key.now) }
     ensures ok { OnOk result (out.new.items ≡ out.old.items ++ head_bytes code key.now) }
     ensures front { IsFrontOf out.old.items out.new.items }
 {
@@ -126,17 +136,54 @@ fn put_head(out: &mut Vec<u8>, code: u8, key: &OpKey) -> Result<(), Memory>
             out.push(code + *index)?;
             Ok(())
         }
-        _ => unreachable!(),
+        OpKey::Item(number) => put_numbered(out, code, *number),
+        OpKey::Named(number, name) => {
+            put_numbered(out, code, *number)?;
+            put_text(out, name.as_str())
+        }
     }
 }
 
 fn put_value(out: &mut Vec<u8>, value: &OpValue) -> Result<(), Memory>
-    requires { IsTrue (is_number_value value.now) }
+    requires { IsTrue (is_carried value.now) }
     ensures ok { OnOk result (out.new.items ≡ out.old.items ++ value_bytes value.now) }
     ensures front { IsFrontOf out.old.items out.new.items }
 {
     match value {
-        OpValue::Scalar(ScalarKind::Number, Value::Whole(whole)) => put_number(out, *whole as i32),
-        _ => unreachable!(),
+        OpValue::Scalar(kind, scalar) => put_scalar(out, *kind, scalar),
+        OpValue::Struct(who, class) => {
+            put_count(out, who.0)?;
+            put_mark(out, *class)
+        }
+        OpValue::Coll(who) => put_count(out, who.0),
     }
+}
+
+fn put_mark(out: &mut Vec<u8>, class: Option<TypeNum>) -> Result<(), Memory>
+    requires { IsTrue (is_type class) }
+    ensures ok { OnOk result (out.new.items ≡ out.old.items ++ mark_bytes class) }
+    ensures front { IsFrontOf out.old.items out.new.items }
+{
+    match class {
+        Some(class) => put_numbered(out, 213, class.0),
+        None => Ok(()),
+    }
+}
+
+// A byte, then a reference, type, item or position number.
+fn put_numbered(out: &mut Vec<u8>, byte: u8, number: u32) -> Result<(), Memory>
+    requires { IsTrue (is_count number) }
+    ensures ok { OnOk result (out.new.items ≡ out.old.items ++ (byte ∷ count_bytes number)) }
+    ensures front { IsFrontOf out.old.items out.new.items }
+{
+    out.push(byte)?;
+    put_count(out, number)
+}
+
+fn put_count(out: &mut Vec<u8>, number: u32) -> Result<(), Memory>
+    requires { IsTrue (is_count number) }
+    ensures ok { OnOk result (out.new.items ≡ out.old.items ++ count_bytes number) }
+    ensures front { IsFrontOf out.old.items out.new.items }
+{
+    put_number(out, number as i32)
 }

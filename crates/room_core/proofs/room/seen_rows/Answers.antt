@@ -8,4 +8,4 @@ pub returns-clause-whole : goal.returns-clause-whole
 returns-clause-whole c =
     IfOk-weaker c.permitted.result _ _
     (λ seen same. same ∙ permitted_number_rows c.args.schema.now c.args.rows.now [] c.requires.schema c.requires.rows)
-    c.permitted.ensures.view
+    c.permitted.ensures
