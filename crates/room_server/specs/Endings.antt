@@ -26,10 +26,11 @@ abbrev pub Writes : {T E : Type 0} → Option (List ℕ) → Option (List ℕ) �
 Writes before after output (Ok x) = Takes before after output
 Writes before after output (Err e) = TakesFront before after output
 
--- a count of faults didn't fall, and rose where the sink failed
+-- a count of faults didn't fall, rose where the sink failed, and is as it was where it didn't
 pub record HasWriteCause {T : Type 0} (before now : ℕ) (result : Result T WriteFault) : Type 0 where
   pub later : before ≤ now
   pub failed : IsErrOf result fault.Failed → Rose before now
+  pub quiet : (IsErrOf result fault.Failed → ⊥) → now ≡ before
 
 -- ---- how a command ends
 

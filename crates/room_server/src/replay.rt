@@ -29,8 +29,10 @@ pub fn replay<S: Source, K: Sink>(alloc: Global, source: &mut S, sink: &mut K) -
     ensures front { (bytes : List ℕ) × (length bytes ≤ 2 ^ 24 + 1) × Reads (S.left source.old) (S.left source.new) bytes }
     ensures read_later { S.faults source.old ≤ S.faults source.new }
     ensures read_cause { result ≡ ending.ReadFailed → Rose (S.faults source.old) (S.faults source.new) }
+    ensures read_quiet { (result ≡ ending.ReadFailed → ⊥) → S.faults source.new ≡ S.faults source.old }
     ensures write_later { K.faults sink.old ≤ K.faults sink.new }
     ensures write_cause { result ≡ ending.WriteFailed → Rose (K.faults sink.old) (K.faults sink.new) }
+    ensures write_quiet { (result ≡ ending.WriteFailed → ⊥) → K.faults sink.new ≡ K.faults sink.old }
 {
     match read_text(alloc, source) {
         Ok(text) => replay_text(alloc, &text, sink),
@@ -44,6 +46,7 @@ fn replay_text<K: Sink>(alloc: Global, text: &[u8], sink: &mut K) -> Ending
     ensures ends { EndsAs (answer_to text.now) (K.taken sink.old) (K.taken sink.new) result }
     ensures later { K.faults sink.old ≤ K.faults sink.new }
     ensures cause { result ≡ ending.WriteFailed → Rose (K.faults sink.old) (K.faults sink.new) }
+    ensures quiet { (result ≡ ending.WriteFailed → ⊥) → K.faults sink.new ≡ K.faults sink.old }
 {
     if text.len() > LIMIT {
         return ended(write_refusal(alloc, sink, 0, "long"), Ending::Refused);

@@ -63,9 +63,13 @@ pub fn run<S: Source, K: Sink, W: Wire, C: Clock, I: Ids>(
     ensures unread { task_of words.now ≡ None → source.new ≡ source.old }
     ensures bound { (bytes : List ℕ) × (length bytes ≤ 2 ^ 24 + 1) × Reads (S.left source.old) (S.left source.new) bytes }
 
-    // No count of faults falls, and the wire, the clock and the ids are as they were.
+    // No count of faults falls, and under any status but 4 no read failed and under any but 5 no write: the count is as it was.
     ensures read_later { S.faults source.old ≤ S.faults source.new }
+    ensures read_quiet { (result ≡ 4 → ⊥) → S.faults source.new ≡ S.faults source.old }
     ensures write_later { K.faults sink.old ≤ K.faults sink.new }
+    ensures write_quiet { (result ≡ 5 → ⊥) → K.faults sink.new ≡ K.faults sink.old }
+
+    // The wire, the clock and the ids are as they were.
     ensures wire { wire.new ≡ wire.old }
     ensures clock { clock.new ≡ clock.old }
     ensures ids { ids.new ≡ ids.old }
@@ -81,8 +85,10 @@ fn answer<S: Source, K: Sink>(alloc: Global, words: &Words, source: &mut S, sink
     ensures bound { (bytes : List ℕ) × (length bytes ≤ 2 ^ 24 + 1) × Reads (S.left source.old) (S.left source.new) bytes }
     ensures read_later { S.faults source.old ≤ S.faults source.new }
     ensures read_cause { result ≡ ending.ReadFailed → Rose (S.faults source.old) (S.faults source.new) }
+    ensures read_quiet { (result ≡ ending.ReadFailed → ⊥) → S.faults source.new ≡ S.faults source.old }
     ensures write_later { K.faults sink.old ≤ K.faults sink.new }
     ensures write_cause { result ≡ ending.WriteFailed → Rose (K.faults sink.old) (K.faults sink.new) }
+    ensures write_quiet { (result ≡ ending.WriteFailed → ⊥) → K.faults sink.new ≡ K.faults sink.old }
 {
     match read_words(words) {
         Some(Task::Replay) => replay(alloc, source, sink),

@@ -45,6 +45,7 @@ pub fn read_text<S: Source>(alloc: Global, source: &mut S) -> Result<Vec<u8>, Re
         × IfOk result (λ text. bytes ≡ text.items) }
     ensures later { S.faults source.old ≤ S.faults source.new }
     ensures cause { IsErrOf result fault.Failed → Rose (S.faults source.old) (S.faults source.new) }
+    ensures quiet { (IsErrOf result fault.Failed → ⊥) → S.faults source.new ≡ S.faults source.old }
 {
     let mut buffer = piece_room(alloc)?;
     let mut text = Vec::new(alloc);
@@ -75,6 +76,7 @@ fn read_piece<S: Source>(
     ensures end { IfOk result (λ count. 0 < length buffer.old → count ≡ 0 → ReadsAll (S.left source.old) (S.left source.new) []) }
     ensures later { S.faults source.old ≤ S.faults source.new }
     ensures cause { IsErrOf result fault.Failed → Rose (S.faults source.old) (S.faults source.new) }
+    ensures quiet { (IsErrOf result fault.Failed → ⊥) → S.faults source.new ≡ S.faults source.old }
 {
     let count = source.read(buffer)?;
     text.extend_from_slice(&buffer[..count])?;

@@ -1,5 +1,5 @@
-use Rattle.std.proofs.Common.{arith}
-use Rattle.room_server.proofs.WriteLaws.{writes_err}
+use Rattle.std.proofs.Common.{◌∙◌}
+use Rattle.room_server.proofs.WriteLaws.{writes_err, quiet_ok}
 use Rattle.room_server.proofs.PlayLaws.{one_further, stopped_within, stopped_here, told_next, follow_next}
 use Rattle.room_server.proofs.replay.play_items.Goals as goal
 
@@ -20,7 +20,7 @@ loop-item-preserved g c =
     let next = told_next c.args.path.now _ _ _ c.as_slice-item-items.result.now _ _ _ c.requires.schema c.loop-item-test.true c.item-item.is step.outs step.after in
     record {
       so_far = one_further _ _ _ _ _ _ _ kept.so_far next c.in_ok-write_outs.ensures.writes;
-      later = omega (arith, c.write_outs.ensures.cause.later);
+      quiet = quiet_ok _ _ _ c.in_ok-write_outs.ensures.cause ∙ kept.quiet;
       items = kept.items;
       follow = (follow_next _ _ _ c.as_slice-item-items.result.now _ _ c.loop-item-test.true c.item-item.is kept.follow step.asked).1;
       fits = step.fits;

@@ -7,7 +7,7 @@ invariant-loop-text g l = record {
   within : length l.text.items ≤ 2 ^ 24 + 1;
   room : length l.buffer.items ≡ 2 ^ 16;
   read : Reads (g.S.Source.left l.fn.source) (g.S.Source.left l.source) l.text.items;
-  later : g.S.Source.faults l.fn.source ≤ g.S.Source.faults l.source;
+  quiet : g.S.Source.faults l.source ≡ g.S.Source.faults l.fn.source;
 }
 
 abbrev pub decreases-loop-text : goal.decreases-loop-text

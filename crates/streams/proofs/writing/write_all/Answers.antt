@@ -1,4 +1,4 @@
-use Rattle.std.proofs.Common.{ℕ, arith, length-take, length-drop}
+use Rattle.std.proofs.Common.{ℕ, refl, ◌∙◌, arith, length-take, length-drop}
 use Rattle.streams.proofs.TakeLaws.{takes_more}
 use Rattle.streams.proofs.writing.write_all.Goals as goal
 
@@ -6,5 +6,5 @@ pub loop-written-preserved : goal.loop-written-preserved
 loop-written-preserved g c = record {
   within = omega (arith, length-take {A = ℕ}, length-drop {A = ℕ}, c.in_ok-written.ensures.within);
   took = takes_more _ _ _ c.args.bytes.now _ _ c.loop-written.invariant.took c.in_ok-written.ensures.taken;
-  later = omega (arith, c.write.ensures.cause.later);
+  quiet = c.in_ok-written.ensures.cause.quiet refl ∙ c.loop-written.invariant.quiet;
 }

@@ -1,4 +1,4 @@
-use Rattle.std.proofs.Common.{length, take, ◌-◌, ◌≤◌}
+use Rattle.std.proofs.Common.{◌≡◌, length, take, ◌-◌, ◌≤◌}
 use Rattle.streams.specs.Reads.{Takes}
 use Rattle.streams.proofs.writing.write_all.Given as goal
 
@@ -6,7 +6,7 @@ abbrev pub invariant-loop-written : goal.invariant-loop-written
 invariant-loop-written g l = record {
   within : l.written ≤ length l.bytes;
   took : Takes (g.K.Sink.taken l.fn.sink) (g.K.Sink.taken l.sink) (take l.written l.bytes);
-  later : g.K.Sink.faults l.fn.sink ≤ g.K.Sink.faults l.sink;
+  quiet : g.K.Sink.faults l.sink ≡ g.K.Sink.faults l.fn.sink;
 }
 
 abbrev pub decreases-loop-written : goal.decreases-loop-written
