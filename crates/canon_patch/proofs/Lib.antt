@@ -1,3 +1,6 @@
-pub mod NumberPatches
-pub mod NumberFrames
-pub mod NumberOps
+pub mod Applying
+pub mod ByRef
+pub mod MergeLaws
+pub mod NewRows
+pub mod PlaceKinds
+pub mod Told

@@ -1,1 +1,6 @@
-pub mod NumberPatch
+pub mod Applying
+pub mod ByRef
+pub mod Merge
+pub mod Names
+pub mod NewRows
+pub mod Told

@@ -1,8 +1,24 @@
-//! The patch from old rows to new rows.
+//! The patch from old rows to new rows, and what blocks make of rows; of every schema and every shape.
 #![tactic(auto)]
 
-pub mod fields;
+pub mod apply;
+mod array;
+pub mod blocks;
+mod by_ref;
+mod fields;
+mod linked;
+mod map;
+mod marks;
+mod names;
+mod numbers;
+mod place;
+mod row;
+mod set;
 #[cfg(test)]
 mod tests;
+mod wanted;
+#[cfg(test)]
+mod written;
 
-pub use fields::patch;
+pub use apply::apply_blocks;
+pub use blocks::patch;

@@ -17,9 +17,11 @@ mod view_fields;
 pub mod views;
 
 pub use freed_rows::freed;
+pub use number_set::NumberSet;
 pub use reached_rows::reached;
 pub use state_model::{
     Command, FieldValue, FieldValues, MapItem, MapItems, Row, RowEntry, Rows, SetItem, SetItems,
     TableFault, Values,
 };
+pub use steps::Steps;
 pub use views::permitted;

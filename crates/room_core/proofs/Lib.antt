@@ -1,1 +1,5 @@
 pub mod RoomSteps
+pub mod NumberPatches
+pub mod NumberFrames
+pub mod NumberOps
+pub mod SharedPatch

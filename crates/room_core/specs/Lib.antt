@@ -2,3 +2,4 @@ pub mod Values
 pub mod Takes
 pub mod Numbered
 pub mod Steps
+pub mod NumberPatch

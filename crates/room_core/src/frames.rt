@@ -1,4 +1,4 @@
-ghost use Rattle.std.specs.Prelude.{◌≡◌, ◌∷◌, true, List, ℕ, Some, None, IfOk, IsTrue, Option, if◌then◌else◌};
+ghost use Rattle.std.specs.Prelude.{◌≡◌, ◌==◌, ◌∷◌, true, not, length, List, ℕ, Some, None, IfOk, IsTrue, Option, if◌then◌else◌};
 ghost use Rattle.frame_model.specs.Frames.{server_bytes};
 ghost use Rattle.frame_model.specs.declared.frame.ServerFrame.TheVariants as server;
 ghost use Rattle.wire_model.specs.Frame.{full_state, state_frame, has_operation};
@@ -37,7 +37,7 @@ pub fn full_frame(alloc: Global, schema: &Schema, shared: &Rows) -> Result<Bytes
     ensures { IfOk result (λ bytes. bytes ≡ server_bytes (server.State (full_state schema.now shared.now shared.now))) }
 {
     let root = Rows::root_alone(alloc, schema)?;
-    let blocks = patch(alloc, schema, &root, shared)?;
+    let blocks = shared_patch(alloc, schema, &root, shared)?;
     state_bytes(alloc, STATE, &blocks)
 }
 
@@ -53,11 +53,26 @@ pub fn patch_frame(
     requires new { AreNumberRows schema.now new.now }
     ensures { IfOk result (λ bytes. bytes ≡ patch_of schema.now old.now new.now) }
 {
-    let blocks = patch(alloc, schema, old, new)?;
+    let blocks = shared_patch(alloc, schema, old, new)?;
     if blocks.is_empty() {
         return Ok(None);
     }
     Ok(Some(state_bytes(alloc, STATE_PATCH, &blocks)?))
+}
+
+// The patch of a client that sees what is shared: its state frame has no part besides.
+#[tactic(auto, using(crate::proofs::SharedPatch::frame_is_patch, crate::proofs::SharedPatch::operation_in_patch))]
+fn shared_patch(alloc: Global, schema: &Schema, old: &Rows, new: &Rows) -> Result<Blocks, Memory>
+    requires schema { IsTrue (is_number_schema schema.now) }
+    requires old { AreNumberRows schema.now old.now }
+    requires new { AreNumberRows schema.now new.now }
+    ensures frame { IfOk result (λ blocks.
+        state_frame schema.now old.now old.now new.now new.now ≡ block_bytes blocks true) }
+    ensures operation { IfOk result (λ blocks.
+        has_operation schema.now old.now old.now new.now new.now ≡ not (length blocks == 0)) }
+    ensures written { IfOk result (λ blocks. IsTrue (are_writable blocks)) }
+{
+    patch(alloc, schema, old, new)
 }
 
 // A state frame with this code.

@@ -22,7 +22,7 @@ use Rattle.wire_laws.proofs.ToldValues.{Knows, kind_of}
 -- ---- what is known to begin with
 
 -- the kinds of rows, looked up
-row_at-kinds_of : (rows : List RowEntry) (n : ℕ) → row_at (kinds_of rows) n ≡ option_map emptied (row_at rows n)
+pub row_at-kinds_of : (rows : List RowEntry) (n : ℕ) → row_at (kinds_of rows) n ≡ option_map emptied (row_at rows n)
 row_at-kinds_of [] n = refl
 row_at-kinds_of (e ∷ es) n =
     let go : (b : Bool) → option_map (λ (e : RowEntry). e.row) (cond b (Some (record { who = e.who; row = emptied e.row })) (find number_of n (kinds_of es)))
@@ -57,7 +57,7 @@ with_known (Some (Plain k s)) known = known
 with_known (Some (Linked n empty)) known = put_row n empty known
 
 -- after an operation what it carries is known besides
-after_carried : (e : Edit) (known : List RowEntry) → known_after e known ≡ with_known (carried_by e) known
+pub after_carried : (e : Edit) (known : List RowEntry) → known_after e known ≡ with_known (carried_by e) known
 after_carried (Add k (Plain s v)) known = refl
 after_carried (Add k (Linked n empty)) known = refl
 after_carried (Replace k (Plain s v)) known = refl

@@ -1,1 +1,7 @@
+mod IndexLaws
+mod ItemLaws
+mod PlaceLaws
+mod SlotLaws
+pub mod EffectLaws
 pub mod NumbersWritable
+pub mod TreeLaws

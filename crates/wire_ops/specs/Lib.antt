@@ -1,3 +1,8 @@
-pub mod NumberBlocks
-pub mod Writable
+pub mod Bodies
 pub mod Fronts
+pub mod Index
+pub mod NumberBlocks
+pub mod Places
+pub mod PlainEdits
+pub mod Trees
+pub mod Writable

@@ -1,9 +1,20 @@
-//! Operations as bytes.
+//! Operations as bytes, and what they do to a row.
 #![tactic(auto)]
 
+mod carried;
+pub mod effect;
+#[cfg(test)]
+mod effect_tests;
+pub mod holder;
+pub mod items;
+mod key_index;
+pub mod links;
+pub mod slots;
 #[cfg(test)]
 mod tests;
+pub mod tree;
 pub mod write;
 
+pub use holder::Holder;
 pub use wire_model::{Block, Blocks, Op, OpFault, OpKey, OpValue, Ops, RowKind, Step};
 pub use write::write_blocks;

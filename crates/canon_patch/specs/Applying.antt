@@ -1,0 +1,36 @@
+-- What a block means against the rows at hand, and the rows that its operations link to.
+use Rattle.std.specs.Prelude.{List, [], ◌∷◌}
+use Rattle.std.specs.Option.{option_map_or}
+use Rattle.schema_model.specs.Classes.{Schema}
+use Rattle.state_model.specs.declared.row.Row.{Row}
+use Rattle.state_model.specs.declared.row.RowEntry.{RowEntry}
+use Rattle.state_model.specs.Rows.{kinds_of}
+use Rattle.state_model.specs.Places as places
+use Rattle.wire_model.specs.declared.op.Op.{Op}
+use Rattle.wire_model.specs.declared.op.Block.{Block}
+use Rattle.wire_model.specs.Edits.{EditBlock}
+use Rattle.wire_model.specs.Effect.{carried_by, with_linked}
+use Rattle.wire_model.specs.Grammar.{resolved}
+use Rattle.wire_model.specs.Resolved.{holder_kind, resolved_ops}
+use Rattle.canon_patch.specs.declared.wanted.Wanted.{Wanted}
+use Rattle.canon_patch.specs.declared.wanted.Wanted.TheVariants as wanted
+
+-- what a place holds, as the definitions have it
+abbrev pub as_wanted : Wanted → places.Wanted
+as_wanted (wanted.Item item) = places.AnItem item
+as_wanted (wanted.Collection home) = places.ACollection home
+
+-- a block with what its links lead to, against the rows at hand
+abbrev pub meant : Schema → List RowEntry → Block → EditBlock
+meant schema rows b =
+    record { holder = b.holder; edits = resolved_ops schema (holder_kind (kinds_of rows) b.holder) (kinds_of rows) b.ops }
+
+-- the rows with the one that an operation links to
+abbrev pub with_link : Schema → Row → Op → List RowEntry → List RowEntry
+with_link schema holder o rows =
+    option_map_or (λ v. with_linked v rows) (carried_by (resolved schema (kinds_of rows) holder o)) rows
+
+-- the rows with those that operations link to, one behind another
+abbrev pub with_links : Schema → Row → List Op → List RowEntry → List RowEntry
+with_links schema holder [] rows = rows
+with_links schema holder (o ∷ os) rows = with_links schema holder os (with_link schema holder o rows)

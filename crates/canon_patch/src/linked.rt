@@ -1,0 +1,110 @@
+//! The rows that operations link to.
+ghost use Rattle.std.specs.Prelude.{◌≡◌, OnOk, if◌then◌else◌};
+ghost use Rattle.state_model.specs.Rows.{kinds_of, is_live, put_row, emptied};
+ghost use Rattle.wire_model.specs.Effect.{with_linked};
+ghost use Rattle.wire_model.specs.Grammar.{resolved_value, wants_at};
+ghost use Rattle.wire_model.specs.Resolved.{holder_kind};
+ghost use Rattle.wire_model.specs.declared.op.OpKey.TheVariants.{Item};
+ghost use Rattle.canon_patch.specs.Applying.{with_link, with_links};
+
+use crate::wanted::{new_collection, new_instance, wanted_at};
+use lists::{Memory, Rising, Seq};
+use schema_model::{RefNum, Schema, TypeNum};
+use state_model::{Row, RowEntry};
+use std::alloc::Global;
+use wire_model::{Op, OpKey, OpValue, Ops};
+use wire_ops::tree::Tree;
+
+/// A holder without its places; an instance of the first class where it isn't there.
+pub fn holder_kind(alloc: Global, rows: &Tree<RowEntry>, who: RefNum) -> Row
+    ensures { result ≡ holder_kind (kinds_of rows.now) who }
+{
+    match rows.get(who.0) {
+        Some(entry) => emptied(alloc, &entry.row),
+        None => Row::Struct(TypeNum(0), Rising::new(alloc)),
+    }
+}
+
+// A row without its places.
+fn emptied(alloc: Global, row: &Row) -> Row
+    ensures { result ≡ emptied row.now }
+{
+    match row {
+        Row::Struct(class, _) => Row::Struct(*class, Rising::new(alloc)),
+        Row::Map(home, _) => Row::Map(*home, Rising::new(alloc)),
+        Row::Array(home, _) => Row::Array(*home, Seq::new(alloc)),
+        Row::Set(home, _) => Row::Set(*home, Rising::new(alloc)),
+    }
+}
+
+/// Adds the rows that the operations of a holder link to, where they aren't there.
+pub fn add_linked(
+    alloc: Global,
+    schema: &Schema,
+    rows: &mut Tree<RowEntry>,
+    holder: &Row,
+    ops: &Ops,
+) -> Result<(), Memory>
+    ensures { OnOk result (rows.new ≡ with_links schema.now holder.now ops.now rows.old) }
+{
+    for op in ops.as_slice() {
+        add_link(alloc, schema, rows, holder, op)?;
+    }
+    Ok(())
+}
+
+// Adds the row that an operation links to.
+fn add_link(
+    alloc: Global,
+    schema: &Schema,
+    rows: &mut Tree<RowEntry>,
+    holder: &Row,
+    op: &Op,
+) -> Result<(), Memory>
+    ensures { OnOk result (rows.new ≡ with_link schema.now holder.now op.now rows.old) }
+{
+    match op {
+        Op::Add(key, value) => add_value(alloc, schema, rows, holder, key, value),
+        Op::Replace(key, value) => add_value(alloc, schema, rows, holder, key, value),
+        Op::DeleteAdd(key, value) => add_value(alloc, schema, rows, holder, key, value),
+        Op::AddByRef(value) => add_value(alloc, schema, rows, holder, &OpKey::Item(0), value),
+        Op::Delete(_) | Op::Clear | Op::DeleteByRef(_) => Ok(()),
+    }
+}
+
+// Adds the row that a value links to, which stands at this key.
+fn add_value(
+    alloc: Global,
+    schema: &Schema,
+    rows: &mut Tree<RowEntry>,
+    holder: &Row,
+    key: &OpKey,
+    value: &OpValue,
+) -> Result<(), Memory>
+    ensures { OnOk result (rows.new ≡ with_linked (resolved_value schema.now (kinds_of rows.old) (wants_at schema.now holder.now key.now) value.now) rows.old) }
+{
+    match value {
+        OpValue::Scalar(_, _) => Ok(()),
+        OpValue::Struct(who, mark) => {
+            let row = new_instance(alloc, *mark, wanted_at(schema, holder, key));
+            add_row(rows, *who, row)
+        }
+        OpValue::Coll(who) => {
+            let row = new_collection(alloc, schema, wanted_at(schema, holder, key));
+            add_row(rows, *who, row)
+        }
+    }
+}
+
+// Adds a row where there is none of its number.
+fn add_row(rows: &mut Tree<RowEntry>, who: RefNum, row: Row) -> Result<(), Memory>
+    ensures { OnOk result (rows.new ≡ (if is_live rows.old who then rows.old else put_row who row rows.old)) }
+{
+    match rows.get(who.0) {
+        Some(_) => Ok(()),
+        None => {
+            rows.put(RowEntry { who, row })?;
+            Ok(())
+        }
+    }
+}

@@ -1,0 +1,157 @@
+//! The operation on one place, and the value that it carries.
+ghost use Rattle.std.specs.Prelude.{◌≡◌, ◌∷◌, [], ◌++◌, IfOk, OnOk, Some, map, option_copied};
+ghost use Rattle.schema_model.specs.declared.class.Item.TheVariants.{Scalar};
+ghost use Rattle.schema_model.specs.declared.value.Value.TheVariants.{Link};
+ghost use Rattle.state_model.specs.Places.{AnItem, item_wants, row_class};
+ghost use Rattle.state_model.specs.Values.{is_link};
+ghost use Rattle.wire_model.specs.Edits.{Add, DeleteAdd, Replace, told, told_link, told_value};
+ghost use Rattle.wire_model.specs.Patch.{carried, changed_place, kind_in, kind_wanted, place_edit};
+
+use lists::Seq;
+use schema_model::{Home, Item, Memory, RefNum, ScalarKind, Schema, TypeNum, Value};
+use state_model::{Row, Rows, same_value};
+use std::alloc::Global;
+use wire_model::{Op, OpKey, OpValue, Ops};
+
+// The operation on a place whose key is the same under every operation: nothing where it is as it was.
+pub(crate) fn push_place(
+    alloc: Global,
+    ops: &mut Ops,
+    rows: &Rows,
+    key: OpKey,
+    kind: ScalarKind,
+    old: Option<&Value>,
+    new: Option<&Value>,
+) -> Result<(), Memory>
+    ensures { OnOk result (ops.new ≡ ops.old ++ map told (place_edit key key rows.now (Some (AnItem (Scalar kind)))
+        (option_copied old.entry) (option_copied new.entry))) }
+{
+    match (old, new) {
+        (None, None) => Ok(()),
+        (Some(_), None) => ops.push(Op::Delete(key)),
+        (None, Some(value)) => push_added(alloc, ops, rows, key, kind, value),
+        (Some(before), Some(value)) => {
+            if same_value(before, value) {
+                Ok(())
+            } else if is_link(value) {
+                push_exchanged(alloc, ops, rows, key, kind, value)
+            } else {
+                push_replaced(alloc, ops, rows, key, kind, value)
+            }
+        }
+    }
+}
+
+// ADD of a value.
+pub(crate) fn push_added(
+    alloc: Global,
+    ops: &mut Ops,
+    rows: &Rows,
+    key: OpKey,
+    kind: ScalarKind,
+    value: &Value,
+) -> Result<(), Memory>
+    ensures { OnOk result (ops.new ≡ ops.old ++ told (Add key (carried rows.now (Some (AnItem (Scalar kind))) value.now)) ∷ []) }
+{
+    let carried = value_told(alloc, rows, kind, true, value)?;
+    ops.push(Op::Add(key, carried))
+}
+
+// DELETE_AND_ADD of a value.
+pub(crate) fn push_exchanged(
+    alloc: Global,
+    ops: &mut Ops,
+    rows: &Rows,
+    key: OpKey,
+    kind: ScalarKind,
+    value: &Value,
+) -> Result<(), Memory>
+    ensures { OnOk result (ops.new ≡ ops.old ++ told (DeleteAdd key (carried rows.now (Some (AnItem (Scalar kind))) value.now)) ∷ []) }
+{
+    let carried = value_told(alloc, rows, kind, true, value)?;
+    ops.push(Op::DeleteAdd(key, carried))
+}
+
+// REPLACE by a value.
+pub(crate) fn push_replaced(
+    alloc: Global,
+    ops: &mut Ops,
+    rows: &Rows,
+    key: OpKey,
+    kind: ScalarKind,
+    value: &Value,
+) -> Result<(), Memory>
+    ensures { OnOk result (ops.new ≡ ops.old ++ told (Replace key (carried rows.now (Some (AnItem (Scalar kind))) value.now)) ∷ []) }
+{
+    let carried = value_told(alloc, rows, kind, false, value)?;
+    ops.push(Op::Replace(key, carried))
+}
+
+// A value as an operation with or without the ADD bit carries it.
+pub(crate) fn value_told(
+    alloc: Global,
+    rows: &Rows,
+    kind: ScalarKind,
+    adds: bool,
+    value: &Value,
+) -> Result<OpValue, Memory>
+    ensures { IfOk result (λ v. v ≡ told_value adds (carried rows.now (Some (AnItem (Scalar kind))) value.now)) }
+{
+    match value {
+        Value::Link(who) => Ok(link_told(rows, adds, *who)),
+        Value::Whole(_) | Value::Str(_) | Value::Truth(_) => {
+            Ok(OpValue::Scalar(kind, value.copy(alloc)?))
+        }
+    }
+}
+
+// A link with what the linked row is.
+fn link_told(rows: &Rows, adds: bool, who: RefNum) -> OpValue
+    ensures { result ≡ told_link adds who (row_class (kind_in rows.now who)) }
+{
+    match rows.get(who) {
+        None => instance_told(adds, who, TypeNum(0)),
+        Some(Row::Struct(class, _)) => instance_told(adds, who, *class),
+        Some(Row::Map(_, _) | Row::Array(_, _) | Row::Set(_, _)) => OpValue::Coll(who),
+    }
+}
+
+// A link to an instance, with its class where the operation has the ADD bit.
+fn instance_told(adds: bool, who: RefNum, class: TypeNum) -> OpValue
+    ensures { result ≡ told_link adds who (Some class) }
+{
+    if adds {
+        OpValue::Struct(who, Some(class))
+    } else {
+        OpValue::Struct(who, None)
+    }
+}
+
+pub(crate) fn is_link(value: &Value) -> bool
+    ensures { result ≡ is_link value.now }
+{
+    match value {
+        Value::Link(_) => true,
+        Value::Whole(_) | Value::Str(_) | Value::Truth(_) => false,
+    }
+}
+
+// The scalar kind of the items of a home; a number's where they are instances.
+pub(crate) fn kind_of_items(schema: &Schema, home: Home) -> ScalarKind
+    ensures { result ≡ kind_wanted (item_wants schema.now home) }
+{
+    match schema.home_field(home) {
+        None => ScalarKind::Number,
+        Some(field) => kind_of_item(field.shape.item()),
+    }
+}
+
+// The scalar kind of an item; a number's where it is an instance.
+pub(crate) fn kind_of_item(item: Item) -> ScalarKind
+    ensures { result ≡ kind_wanted (Some (AnItem item)) }
+{
+    match item {
+        Item::Scalar(kind) => kind,
+        Item::Class(_) => ScalarKind::Number,
+    }
+}

@@ -1,0 +1,191 @@
+ghost use Rattle.std.specs.Prelude.{◌≡◌, ◌==◌, ◌||◌, not, filter, [], OnOk, IfOk, is_some};
+ghost use Rattle.std.specs.BTreeMap.{get_by_text};
+ghost use Rattle.std.specs.List.{list_any};
+ghost use Rattle.std.specs.Str.{bytes_eq};
+ghost use Rattle.lists.specs.Rising as rising;
+ghost use Rattle.state_model.specs.declared.row.MapItem.{MapItem};
+ghost use Rattle.wire_model.specs.Effect.{without_key, put_named, put_value};
+ghost use Rattle.wire_ops.specs.Index.{IsIndex};
+
+use crate::key_index::KeyIndex;
+use crate::tree::Tree;
+use lists::{Memory, Text};
+use schema_model::Value;
+use state_model::{MapItem, MapItems};
+use std::alloc::Global;
+use std::marker::Model;
+use std::mem;
+
+/// The items of a map while operations run: found by number and by key in logarithmic time.
+#[derive(Drop)]
+pub struct Items {
+    items: Tree<MapItem>,
+    // The keys of the items. There is no index where several items that were taken over have one
+    // key, which no operation makes, and none after an operation that failed.
+    index: Option<KeyIndex>,
+}
+
+impl Model for Items {
+    ghost use Rattle.std.specs.Prelude.{List, IfSome};
+    ghost use Rattle.std.specs.BTreeMap.{get_by_text};
+    ghost use Rattle.state_model.specs.declared.row.MapItem.{MapItem};
+    ghost use Rattle.wire_ops.specs.Index.{IsIndex};
+
+    ghost Value = { List MapItem };
+
+    ghost view = { λ s. s.items };
+
+    ghost invariant = { λ s. IfSome s.index (λ i. IsIndex s.items (get_by_text i.numbers)) };
+}
+
+impl Items {
+    /// Items, taken over. Takes their number times its logarithm.
+    pub fn open(alloc: Global, items: MapItems) -> Result<Items, Memory>
+        ensures { IfOk result (λ s. s ≡ items) }
+    {
+        let index = KeyIndex::of(alloc, &items)?;
+        Ok(Items {
+            items: Tree::from_rising(alloc, items)?,
+            index,
+        })
+    }
+
+    /// The items as a list.
+    pub fn close(self, alloc: Global) -> Result<MapItems, Memory>
+        ensures { IfOk result (λ items. items ≡ self) }
+    {
+        self.items.into_rising(alloc)
+    }
+
+    /// An item has this number.
+    pub fn has(&self, number: u32) -> bool
+        ensures { result ≡ list_any (λ (i : MapItem). i.number == number) self.now }
+    {
+        self.items.get(number).is_some()
+    }
+
+    /// Puts an item under a number. Another number with its key is gone. Takes logarithmic time;
+    /// it looks at all items where those that were taken over repeat a key, or after an `Err`.
+    pub fn put_named(
+        &mut self,
+        alloc: Global,
+        number: u32,
+        key: &Text,
+        value: Value,
+    ) -> Result<(), Memory>
+        ensures { OnOk result (self.new ≡ put_named number key.now value self.old) }
+    {
+        match self.index.take() {
+            Some(index) => {
+                let mut index = index;
+                put_by_index(alloc, &mut self.items, &mut index, number, key, value)?;
+                self.index = Some(index);
+                Ok(())
+            }
+            None => self.put_by_scan(alloc, number, key, value),
+        }
+    }
+
+    // Puts an item. Another number with its key is gone. Looks at all items.
+    fn put_by_scan(
+        &mut self,
+        alloc: Global,
+        number: u32,
+        key: &Text,
+        value: Value,
+    ) -> Result<(), Memory>
+        ensures { OnOk result (self.new ≡ put_named number key.now value self.old) }
+    {
+        self.index = None;
+        let items = mem::replace(&mut self.items, Tree::new(alloc)).into_rising(alloc)?;
+        let kept = without_key(alloc, items, number, key)?;
+        self.items = Tree::from_rising(alloc, kept)?;
+        self.items.put(MapItem {
+            number,
+            key: key.copy(alloc)?,
+            value,
+        })?;
+        Ok(())
+    }
+
+    /// Puts a new value under a number that is there.
+    pub fn put_value(&mut self, number: u32, value: Value) -> Result<(), Memory>
+        ensures { OnOk result (self.new ≡ put_value number value self.old) }
+    {
+        let index = self.index.take();
+        if let Some(old) = self.items.remove(number) {
+            self.items.put(MapItem {
+                number,
+                key: old.key,
+                value,
+            })?;
+        }
+        self.index = index;
+        Ok(())
+    }
+
+    /// Takes the item with this number out.
+    pub fn remove(&mut self, number: u32)
+        ensures { self.new ≡ rising.remove (λ (i : MapItem). i.number) number self.old }
+    {
+        let gone = self.items.remove(number);
+        if let Some(index) = &mut self.index {
+            index.forget(gone);
+        }
+    }
+
+    /// Takes all items out.
+    pub fn clear(&mut self, alloc: Global)
+        ensures { self.new ≡ [] }
+    {
+        self.items.clear();
+        self.index = Some(KeyIndex::new(alloc));
+    }
+}
+
+// Puts an item. Another number with its key is gone.
+fn put_by_index(
+    alloc: Global,
+    items: &mut Tree<MapItem>,
+    index: &mut KeyIndex,
+    number: u32,
+    key: &Text,
+    value: Value,
+) -> Result<(), Memory>
+    requires { IsIndex items.old (get_by_text index.old.numbers) }
+    ensures items { OnOk result (items.new ≡ put_named number key.now value items.old) }
+    ensures index { OnOk result (IsIndex items.new (get_by_text index.new.numbers)) }
+{
+    let replaced = items.put(MapItem {
+        number,
+        key: key.copy(alloc)?,
+        value,
+    })?;
+    index.forget(replaced);
+    if let Some(other) = index.put(alloc, key, number)? {
+        items.remove(other);
+    }
+    Ok(())
+}
+
+// The items without another number that has this key.
+fn without_key(alloc: Global, items: MapItems, number: u32, key: &Text) -> Result<MapItems, Memory>
+    ensures { IfOk result (λ kept. kept ≡ without_key number key.now items) }
+{
+    let mut kept = MapItems::new(alloc);
+    if items.is_empty() {
+        return Ok(kept);
+    }
+    for item in items.as_slice() {
+        if is_kept(item, number, key) {
+            kept.push(item.copy(alloc)?)?;
+        }
+    }
+    Ok(kept)
+}
+
+fn is_kept(item: &MapItem, number: u32, key: &Text) -> bool
+    ensures { result ≡ ((item.now.number == number) || not (bytes_eq item.now.key key.now)) }
+{
+    item.number == number || item.key.as_slice() != key.as_slice()
+}
