@@ -17,8 +17,6 @@ mod set;
 #[cfg(test)]
 mod tests;
 mod wanted;
-#[cfg(test)]
-mod written;
 
 pub use apply::apply_blocks;
 pub use blocks::patch;

@@ -2,7 +2,8 @@ ghost use Rattle.std.specs.Prelude.{◌+◌};
 ghost use Rattle.lists.specs.Rising.{IsAbove};
 ghost use Rattle.state_model.specs.Rows.{number_of};
 
-use crate::written::bytes_of;
+mod written;
+
 use crate::{apply_blocks, patch};
 use lists::{Seq, Text};
 use plain_rows::freed;
@@ -10,12 +11,11 @@ use schema_model::{
     Class, FieldDecl, Fields, Home, Item, Memory, RefNum, ScalarKind, Schema, Shape, Tag, TypeNum,
     Value,
 };
-use state_model::{
-    FieldValue, FieldValues, MapItem, MapItems, Row, RowEntry, Rows, SetItem, SetItems, Values,
-};
+use state_model::{FieldValue, FieldValues, MapItem, MapItems, Row, RowEntry, Rows, Values};
 use std::alloc::Global;
 use std::test::Fail;
-use wire_model::{Blocks, Op, OpKey, OpValue};
+use wire_model::Blocks;
+use written::bytes_of;
 
 // ---- schemas
 
@@ -46,36 +46,6 @@ fn made(schema: Option<Schema>) -> Result<Schema, Fail> {
         Some(schema) => Ok(schema),
         None => Err(Fail::new("no schema")),
     }
-}
-
-// A zoo with every shape: pets by name, a filtered parade, signs, a star, tickets; a dog is a pet with an age.
-fn zoo(alloc: Global) -> Result<Schema, Fail> {
-    let number = Item::Scalar(ScalarKind::Number);
-    let string = Item::Scalar(ScalarKind::Str);
-    let pet = Item::Class(TypeNum(1));
-    let mut gate = Seq::new(alloc);
-    field(alloc, &mut gate, "pets", Shape::Map(pet), None)?;
-    field(alloc, &mut gate, "parade", Shape::Array(pet), Some(Tag(-1)))?;
-    field(alloc, &mut gate, "signs", Shape::Set(string), None)?;
-    field(alloc, &mut gate, "star", Shape::One(pet), Some(Tag(7)))?;
-    field(
-        alloc,
-        &mut gate,
-        "tickets",
-        Shape::One(number),
-        Some(Tag(-1)),
-    )?;
-    let mut named = Seq::new(alloc);
-    field(alloc, &mut named, "name", Shape::One(string), None)?;
-    field(alloc, &mut named, "toys", Shape::Array(number), None)?;
-    let mut aged = Seq::new(alloc);
-    let age = Item::Scalar(ScalarKind::U8);
-    field(alloc, &mut aged, "age", Shape::One(age), None)?;
-    let mut classes = Seq::new(alloc);
-    classes.push(class(alloc, "Zoo", None, gate)?)?;
-    classes.push(class(alloc, "Pet", None, named)?)?;
-    classes.push(class(alloc, "Dog", Some(TypeNum(1)), aged)?)?;
-    made(Schema::new(classes, TypeNum(0)))
 }
 
 // A state with one field, which holds items of class 1 or numbers.
@@ -206,42 +176,6 @@ fn holder(alloc: Global, class: u32, whos: &[u32]) -> Result<Row, Memory> {
     Ok(Row::Struct(TypeNum(class), fields))
 }
 
-fn zoo_rows(alloc: Global) -> Result<Rows, Memory> {
-    let mut gate = FieldValues::new(alloc);
-    put(&mut gate, 0, link(1))?;
-    put(&mut gate, 1, link(2))?;
-    put(&mut gate, 2, link(3))?;
-    put(&mut gate, 3, link(5))?;
-    put(&mut gate, 4, Value::Whole(12))?;
-    let mut pets = MapItems::new(alloc);
-    name(alloc, &mut pets, 0, "rex", link(4))?;
-    name(alloc, &mut pets, 2, "tom", link(5))?;
-    let mut signs = SetItems::new(alloc);
-    signs.put(SetItem {
-        number: 1,
-        value: text(alloc, "open")?,
-    })?;
-    let mut rex = FieldValues::new(alloc);
-    put(&mut rex, 0, text(alloc, "Rex")?)?;
-    put(&mut rex, 1, link(6))?;
-    put(&mut rex, 2, Value::Whole(3))?;
-    let mut tom = FieldValues::new(alloc);
-    put(&mut tom, 0, text(alloc, "Tom")?)?;
-    let mut rows = Rows::new(alloc);
-    add(&mut rows, 0, Row::Struct(TypeNum(0), gate))?;
-    add(&mut rows, 1, Row::Map(home(0, 0), pets))?;
-    add(&mut rows, 2, Row::Array(home(0, 1), links(alloc, &[4, 5])?))?;
-    add(&mut rows, 3, Row::Set(home(0, 2), signs))?;
-    add(&mut rows, 4, Row::Struct(TypeNum(2), rex))?;
-    add(&mut rows, 5, Row::Struct(TypeNum(1), tom))?;
-    add(
-        &mut rows,
-        6,
-        Row::Array(home(1, 1), numbers(alloc, &[7, 8])?),
-    )?;
-    Ok(rows)
-}
-
 // The root with an array, and two cards.
 fn with_array(alloc: Global, values: Values) -> Result<Rows, Memory> {
     let mut rows = Rows::new(alloc);
@@ -299,62 +233,25 @@ fn shared_player(alloc: Global) -> Result<Rows, Memory> {
     Ok(rows)
 }
 
-// ---- blocks as a text
+// ---- patches
 
-fn key_text(alloc: Global, key: &OpKey) -> Result<String, Fail> {
-    match key {
-        OpKey::Field(index) => Ok(format!(in alloc; ".{index}")?),
-        OpKey::Item(number) => Ok(format!(in alloc; "[{number}]")?),
-        OpKey::Named(number, key) => Ok(format!(in alloc; "[{number} {}]", key.as_str())?),
+// Whether the patch from the old rows to the new ones has these bytes, and, done to the old rows, prints as the new
+// ones; what nothing holds is freed of both.
+fn is_patch(
+    alloc: Global,
+    schema: &Schema,
+    old: &Rows,
+    new: &Rows,
+    bytes: &[u8],
+) -> Result<bool, Fail> {
+    let blocks = patch(alloc, schema, old, new)?;
+    if !leads(alloc, schema, old, new, &blocks)? {
+        return Ok(false);
     }
+    let found = bytes_of(alloc, &blocks)?;
+    Ok(found.as_slice() == bytes)
 }
 
-fn scalar_text(alloc: Global, value: &Value) -> Result<String, Fail> {
-    match value {
-        Value::Whole(whole) => Ok(format!(in alloc; "{whole}")?),
-        Value::Str(text) => Ok(format!(in alloc; "{}", text.as_str())?),
-        Value::Truth(truth) => Ok(format!(in alloc; "{truth}")?),
-        Value::Link(who) => Ok(format!(in alloc; "link {}", who.0)?),
-    }
-}
-
-fn value_text(alloc: Global, value: &OpValue) -> Result<String, Fail> {
-    match value {
-        OpValue::Scalar(kind, scalar) => {
-            let scalar = scalar_text(alloc, scalar)?;
-            Ok(format!(in alloc; "{scalar}:{kind:?}")?)
-        }
-        OpValue::Struct(who, Some(class)) => Ok(format!(in alloc; "#{} of {}", who.0, class.0)?),
-        OpValue::Struct(who, None) => Ok(format!(in alloc; "#{}", who.0)?),
-        OpValue::Coll(who) => Ok(format!(in alloc; "@{}", who.0)?),
-    }
-}
-
-fn op_text(alloc: Global, op: &Op) -> Result<String, Fail> {
-    let (sign, key, value) = match op {
-        Op::Add(key, value) => ("+", key_text(alloc, key)?, value_text(alloc, value)?),
-        Op::Replace(key, value) => ("=", key_text(alloc, key)?, value_text(alloc, value)?),
-        Op::DeleteAdd(key, value) => ("-+", key_text(alloc, key)?, value_text(alloc, value)?),
-        Op::Delete(key) => ("-", key_text(alloc, key)?, String::new(alloc)),
-        Op::Clear => ("clear", String::new(alloc), String::new(alloc)),
-        Op::AddByRef(value) => ("push", String::new(alloc), value_text(alloc, value)?),
-        Op::DeleteByRef(who) => ("drop", String::new(alloc), format!(in alloc; "#{}", who.0)?),
-    };
-    Ok(format!(in alloc; "{sign}{key} {value}; ")?)
-}
-
-fn told(alloc: Global, blocks: &Blocks) -> Result<String, Fail> {
-    let mut out = String::new(alloc);
-    for block in blocks.as_slice() {
-        out.push_str(&format!(in alloc; "{}: ", block.holder.0)?)?;
-        for op in block.ops.as_slice() {
-            out.push_str(&op_text(alloc, op)?)?;
-        }
-    }
-    Ok(out)
-}
-
-// Whether the blocks, done to the old rows, print as the new rows; what nothing holds is freed of both.
 fn leads(
     alloc: Global,
     schema: &Schema,
@@ -363,151 +260,94 @@ fn leads(
     blocks: &Blocks,
 ) -> Result<bool, Fail> {
     let after = apply_blocks(alloc, schema, old, blocks)?;
-    let left = freed(alloc, &after)?;
-    let wanted = freed(alloc, new)?;
-    Ok(format!(in alloc; "{left:?}")? == format!(in alloc; "{wanted:?}")?)
+    let left = printed(alloc, &after)?;
+    let wanted = printed(alloc, new)?;
+    Ok(left == wanted)
 }
 
-// ---- tests
-
-#[test]
-fn writes_whole_rows_of_all_shapes(rt: HostRuntime) -> Result<(), Fail> {
-    let alloc = rt.alloc();
-    let schema = zoo(alloc)?;
-    let old = Rows::root_alone(alloc, &schema)?;
-    let new = zoo_rows(alloc)?;
-    let blocks = patch(alloc, &schema, &old, &new)?;
-    assert!(rt; leads(alloc, &schema, &old, &new, &blocks)?);
-    assert_eq!(rt;
-        told(alloc, &blocks)?.as_str(),
-        "0: +.0 @1; +.1 @2; +.2 @3; +.3 #5 of 1; +.4 12:Number; \
-         1: +[0 rex] #4 of 2; +[2 tom] #5 of 1; \
-         2: clear ; push #4 of 2; push #5 of 1; \
-         3: +[1] open:Str; \
-         5: +.0 Tom:Str; \
-         4: +.0 Rex:Str; +.1 @6; +.2 3:U8; \
-         6: clear ; +[0] 7:Number; +[1] 8:Number; "
-    );
-    Ok(())
+fn printed(alloc: Global, rows: &Rows) -> Result<String, Fail> {
+    let left = freed(alloc, rows)?;
+    Ok(format!(in alloc; "{left:?}")?)
 }
 
 #[test]
 fn players_come_to_the_root(rt: HostRuntime) -> Result<(), Fail> {
-    let alloc = rt.alloc();
-    let schema = players(alloc)?;
-    let old = Rows::root_alone(alloc, &schema)?;
-    let new = shared_player(alloc)?;
-    let blocks = patch(alloc, &schema, &old, &new)?;
-    assert!(rt; leads(alloc, &schema, &old, &new, &blocks)?);
-    assert_eq!(rt;
-        bytes_of(alloc, &blocks)?.as_slice(),
-        [
-            0x80, 0x01, 0xff, 0x01, 0x80, 0x00, 0xa2, 0x73, 0x31, 0x02, 0xd5, 0x01, 0xff, 0x02,
-            0x80, 0xa1, 0x61
-        ]
-        .as_slice()
-    );
+    let schema = players(rt.alloc())?;
+    let old = Rows::root_alone(rt.alloc(), &schema)?;
+    let new = shared_player(rt.alloc())?;
+    let bytes = [
+        0x80, 0x01, 0xff, 0x01, 0x80, 0x00, 0xa2, 0x73, 0x31, 0x02, 0xd5, 0x01, 0xff, 0x02, 0x80,
+        0xa1, 0x61,
+    ];
+    assert!(rt; is_patch(rt.alloc(), &schema, &old, &new, &bytes)?);
+    assert!(rt; is_patch(rt.alloc(), &schema, &new, &new, &[])?);
     Ok(())
 }
 
 #[test]
 fn array_loses_its_first(rt: HostRuntime) -> Result<(), Fail> {
-    let alloc = rt.alloc();
-    let list = Shape::Array(Item::Scalar(ScalarKind::Number));
-    let schema = state(alloc, list, None)?;
-    let old = with_array(alloc, numbers(alloc, &[1, 2, 3])?)?;
-    let new = with_array(alloc, numbers(alloc, &[2, 3])?)?;
-    let blocks = patch(alloc, &schema, &old, &new)?;
-    assert!(rt; leads(alloc, &schema, &old, &new, &blocks)?);
-    assert_eq!(rt;
-        told(alloc, &blocks)?.as_str(),
-        "1: =[0] 2:Number; =[1] 3:Number; -[2] ; "
-    );
-    assert_eq!(rt;
-        bytes_of(alloc, &blocks)?.as_slice(),
-        [0xff, 0x01, 0x00, 0x00, 0x02, 0x00, 0x01, 0x03, 0x40, 0x02].as_slice()
-    );
+    let schema = state(
+        rt.alloc(),
+        Shape::Array(Item::Scalar(ScalarKind::Number)),
+        None,
+    )?;
+    let old = with_array(rt.alloc(), numbers(rt.alloc(), &[1, 2, 3])?)?;
+    let new = with_array(rt.alloc(), numbers(rt.alloc(), &[2, 3])?)?;
+    let bytes = [0xff, 0x01, 0x00, 0x00, 0x02, 0x00, 0x01, 0x03, 0x40, 0x02];
+    assert!(rt; is_patch(rt.alloc(), &schema, &old, &new, &bytes)?);
     Ok(())
 }
 
 #[test]
-fn filtered_array_goes_by_reference(rt: HostRuntime) -> Result<(), Fail> {
-    let alloc = rt.alloc();
-    let schema = state(alloc, Shape::Array(Item::Class(TypeNum(1))), Some(Tag(-1)))?;
-    let both = with_array(alloc, links(alloc, &[2, 3])?)?;
-    let swapped = with_array(alloc, links(alloc, &[3, 2])?)?;
-    let second = with_array(alloc, links(alloc, &[3])?)?;
-    let blocks = patch(alloc, &schema, &both, &swapped)?;
-    assert!(rt; leads(alloc, &schema, &both, &swapped, &blocks)?);
-    assert_eq!(rt;
-        told(alloc, &blocks)?.as_str(),
-        "1: clear ; push #3 of 1; push #2 of 1; "
-    );
-    assert_eq!(rt;
-        bytes_of(alloc, &blocks)?.as_slice(),
-        [
-            0xff, 0x01, 0x0a, 0x81, 0x03, 0x03, 0xd5, 0x01, 0x81, 0x02, 0x02, 0xd5, 0x01
-        ]
-        .as_slice()
-    );
-    let blocks = patch(alloc, &schema, &both, &second)?;
-    assert!(rt; leads(alloc, &schema, &both, &second, &blocks)?);
-    assert_eq!(rt; told(alloc, &blocks)?.as_str(), "1: drop #2; ");
-    let blocks = patch(alloc, &schema, &second, &swapped)?;
-    assert_eq!(rt; told(alloc, &blocks)?.as_str(), "1: push #2 of 1; ");
+fn filtered_array_changes_places(rt: HostRuntime) -> Result<(), Fail> {
+    let schema = state(
+        rt.alloc(),
+        Shape::Array(Item::Class(TypeNum(1))),
+        Some(Tag(-1)),
+    )?;
+    let old = with_array(rt.alloc(), links(rt.alloc(), &[2, 3])?)?;
+    let new = with_array(rt.alloc(), links(rt.alloc(), &[3, 2])?)?;
+    let bytes = [
+        0xff, 0x01, 0x0a, 0x81, 0x03, 0x03, 0xd5, 0x01, 0x81, 0x02, 0x02, 0xd5, 0x01,
+    ];
+    assert!(rt; is_patch(rt.alloc(), &schema, &old, &new, &bytes)?);
+    Ok(())
+}
+
+#[test]
+fn filtered_array_loses_its_first(rt: HostRuntime) -> Result<(), Fail> {
+    let schema = state(
+        rt.alloc(),
+        Shape::Array(Item::Class(TypeNum(1))),
+        Some(Tag(-1)),
+    )?;
+    let old = with_array(rt.alloc(), links(rt.alloc(), &[2, 3])?)?;
+    let new = with_array(rt.alloc(), links(rt.alloc(), &[3])?)?;
+    assert!(rt; is_patch(rt.alloc(), &schema, &old, &new, &[0xff, 0x01, 0x21, 0x02])?);
     Ok(())
 }
 
 #[test]
 fn list_moves_out_of_a_hidden_box(rt: HostRuntime) -> Result<(), Fail> {
-    let alloc = rt.alloc();
-    let schema = boxes(alloc)?;
-    let old = Rows::root_alone(alloc, &schema)?;
-    let new = with_box(alloc, 1)?;
-    let blocks = patch(alloc, &schema, &old, &new)?;
-    assert!(rt; leads(alloc, &schema, &old, &new, &blocks)?);
-    assert_eq!(rt;
-        told(alloc, &blocks)?.as_str(),
-        "0: +.1 #1 of 1; 1: +.0 @2; 2: clear ; +[0] 1:Number; +[1] 2:Number; "
-    );
-    assert_eq!(rt;
-        bytes_of(alloc, &blocks)?.as_slice(),
-        [
-            0x81, 0x01, 0xd5, 0x01, 0xff, 0x01, 0x80, 0x02, 0xff, 0x02, 0x0a, 0x80, 0x00, 0x01,
-            0x80, 0x01, 0x02
-        ]
-        .as_slice()
-    );
+    let schema = boxes(rt.alloc())?;
+    let old = Rows::root_alone(rt.alloc(), &schema)?;
+    let new = with_box(rt.alloc(), 1)?;
+    let bytes = [
+        0x81, 0x01, 0xd5, 0x01, 0xff, 0x01, 0x80, 0x02, 0xff, 0x02, 0x0a, 0x80, 0x00, 0x01, 0x80,
+        0x01, 0x02,
+    ];
+    assert!(rt; is_patch(rt.alloc(), &schema, &old, &new, &bytes)?);
     Ok(())
 }
 
 #[test]
 fn player_moves_between_maps(rt: HostRuntime) -> Result<(), Fail> {
-    let alloc = rt.alloc();
-    let schema = two_maps(alloc)?;
-    let old = with_player(alloc, true)?;
-    let new = with_player(alloc, false)?;
-    let blocks = patch(alloc, &schema, &old, &new)?;
-    assert!(rt; leads(alloc, &schema, &old, &new, &blocks)?);
-    assert_eq!(rt;
-        told(alloc, &blocks)?.as_str(),
-        "1: -[0] ; 2: +[0 q] #3 of 1; "
-    );
-    assert_eq!(rt;
-        bytes_of(alloc, &blocks)?.as_slice(),
-        [
-            0xff, 0x01, 0x40, 0x00, 0xff, 0x02, 0x80, 0x00, 0xa1, 0x71, 0x03, 0xd5, 0x01
-        ]
-        .as_slice()
-    );
-    Ok(())
-}
-
-#[test]
-fn nothing_changed_has_no_blocks(rt: HostRuntime) -> Result<(), Fail> {
-    let alloc = rt.alloc();
-    let schema = zoo(alloc)?;
-    let blocks = patch(alloc, &schema, &zoo_rows(alloc)?, &zoo_rows(alloc)?)?;
-    assert!(rt; blocks.is_empty());
+    let schema = two_maps(rt.alloc())?;
+    let old = with_player(rt.alloc(), true)?;
+    let new = with_player(rt.alloc(), false)?;
+    let bytes = [
+        0xff, 0x01, 0x40, 0x00, 0xff, 0x02, 0x80, 0x00, 0xa1, 0x71, 0x03, 0xd5, 0x01,
+    ];
+    assert!(rt; is_patch(rt.alloc(), &schema, &old, &new, &bytes)?);
     Ok(())
 }

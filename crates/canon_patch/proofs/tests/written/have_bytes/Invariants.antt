@@ -1,6 +1,6 @@
 use Rattle.std.proofs.Common.{◌≡◌, true, take}
 use Rattle.wire_ops.specs.Writable.{are_writable}
-use Rattle.canon_patch.proofs.written.have_bytes.Given as goal
+use Rattle.canon_patch.proofs.tests.written.have_bytes.Given as goal
 
 -- the blocks so far have bytes
 abbrev pub invariant-loop-block : goal.invariant-loop-block
