@@ -12,7 +12,9 @@ use Rattle.schema_model.specs.declared.class.FieldDecl.{FieldDecl}
 use Rattle.schema_model.specs.declared.class.Shape.{Shape}
 use Rattle.schema_model.specs.declared.class.Shape.TheVariants as shape
 use Rattle.schema_model.specs.declared.place.Home.{Home}
-use Rattle.state_model.specs.Places.{Wanted, AnItem, ACollection, collection_of}
+use Rattle.state_model.specs.declared.place.Wanted.{Wanted}
+use Rattle.state_model.specs.declared.place.Wanted.TheVariants.{Item as AnItem, Collection as ACollection}
+use Rattle.state_model.specs.Places.{collection_of}
 use Rattle.state_model.specs.declared.row.Row.{Row}
 use Rattle.state_model.specs.declared.row.Row.TheVariants as row
 use Rattle.state_model.specs.declared.row.RowEntry.{RowEntry}

@@ -9,7 +9,9 @@ use Rattle.schema_model.specs.declared.place.Home.{Home}
 use Rattle.schema_model.specs.declared.scalar.ScalarKind.{ScalarKind}
 use Rattle.schema_model.specs.declared.value.Value.{Value}
 use Rattle.state_model.specs.declared.row.RowEntry.{RowEntry}
-use Rattle.state_model.specs.Places.{Wanted, AnItem, item_wants}
+use Rattle.state_model.specs.declared.place.Wanted.{Wanted}
+use Rattle.state_model.specs.declared.place.Wanted.TheVariants.{Item as AnItem}
+use Rattle.state_model.specs.Places.{item_wants}
 use Rattle.state_model.specs.Values.{same_value}
 use Rattle.wire_model.specs.declared.op.Op.{Op}
 use Rattle.wire_model.specs.Edits.{Clear, told}

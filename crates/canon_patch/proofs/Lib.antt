@@ -2,5 +2,4 @@ pub mod Applying
 pub mod ByRef
 pub mod MergeLaws
 pub mod NewRows
-pub mod PlaceKinds
 pub mod Told

@@ -1,10 +1,14 @@
 -- The operations of a patch as they are told, place by place and block by block.
 use Rattle.std.proofs.Common.{◌≡◌, ℕ, zero, suc, ◌+◌, max, Bool, true, false, List, [], ◌∷◌, ◌++◌, length, map, Option, Some, None, refl, sym, ap, ◌∙◌, arith}
 use Rattle.std.specs.List.{flat_map, range_with_len, slice_get}
-use Rattle.std.specs.Option.{option_map_or}
+use Rattle.std.specs.Option.{option_map, option_map_or}
 use Rattle.std.proofs.lemmas.List.{append-nil, append_assoc, map-append}
 use Rattle.std.proofs.lemmas.List.Concat.{flat_map-append}
+use Rattle.std.proofs.lemmas.Option.{same_Some}
+use Rattle.lists.specs.Rising.{find}
+use Rattle.lists.proofs.RisingLaws.{find_key}
 use Rattle.schema_model.specs.Classes.{Schema}
+use Rattle.schema_model.specs.declared.scalar.ScalarKind.{ScalarKind}
 use Rattle.schema_model.specs.declared.class.Item.TheVariants.{Scalar}
 use Rattle.schema_model.specs.declared.value.Value.{Value}
 use Rattle.schema_model.specs.declared.value.Value.TheVariants.{Whole, Str, Truth, Link}
@@ -13,7 +17,9 @@ use Rattle.state_model.specs.declared.row.RowEntry.{RowEntry}
 use Rattle.state_model.specs.declared.row.FieldValue.{FieldValue}
 use Rattle.state_model.specs.declared.row.MapItem.{MapItem}
 use Rattle.state_model.specs.declared.row.SetItem.{SetItem}
-use Rattle.state_model.specs.Places.{Wanted, AnItem, field_wants, item_wants, row_class}
+use Rattle.state_model.specs.declared.place.Wanted.{Wanted}
+use Rattle.state_model.specs.declared.place.Wanted.TheVariants.{Item as AnItem}
+use Rattle.state_model.specs.Places.{field_wants, item_wants, row_class}
 use Rattle.state_model.specs.Rows.{numbers_of}
 use Rattle.wire_model.specs.declared.op.OpKey.{OpKey}
 use Rattle.wire_model.specs.declared.op.OpKey.TheVariants.{Field, Item, Named}
@@ -25,7 +31,7 @@ use Rattle.wire_model.specs.Patch.{carried, place_edit, kind_wanted, field_value
 use Rattle.wire_model.specs.Patch.{field_edits, map_edits, set_edits, slot_edits, block_of, common_blocks, new_blocks, linked_number, named_in, named_by_blocks}
 use Rattle.wire_model.specs.Effect.{carried_by}
 use Rattle.canon_patch.specs.Names.{named_by_value, named_by_op, named_by_ops, named_by_told, block_told}
-use Rattle.canon_patch.specs.Told.{field_told, item_told, element_told, slot_told, first_told}
+use Rattle.canon_patch.specs.Told.{index_of, field_told, item_told, element_told, slot_told, first_told}
 
 -- a map over the lists that are joined
 map-flat_map : {X Y Z : Type 0} (g : Y → Z) (f : X → List Y) (xs : List X) → map g (flat_map f xs) ≡ flat_map (λ x. map g (f x)) xs
@@ -109,6 +115,31 @@ slots_more rows wanted old new n =
     ap (λ m. flat_map ops (range_with_len 0 m)) (let e : n + 1 ≡ suc n = omega arith in e)
     ∙ (ap (flat_map ops) (range_more 0 n ∙ ap (λ m. range_with_len 0 n ++ m ∷ []) (let e : 0 + n ≡ n = omega arith in e))
     ∙ (flat_map-append ops (range_with_len 0 n) (n ∷ []) ∙ ap (λ os. first_told rows wanted old new n ++ os) (append-nil (ops n))))
+
+-- ---- the operation on one field, at the fields that were looked up
+
+-- the index of a field that was looked up is the number that it was looked up by
+found_index : (n index : ℕ) (old new : List FieldValue) (u v : Option FieldValue) → u ≡ find (λ (f : FieldValue). f.field) n old →
+    v ≡ find (λ (f : FieldValue). f.field) n new → index_of u v ≡ Some index → index ≡ n
+found_index n index old new u (Some f) is_u is_v h = sym (same_Some _ _ h) ∙ find_key (λ (x : FieldValue). x.field) n new f (sym is_v)
+found_index n index old new (Some f) None is_u is_v h = sym (same_Some _ _ h) ∙ find_key (λ (x : FieldValue). x.field) n old f (sym is_u)
+found_index n index old new None None is_u is_v h = cc
+
+pub field_next : (schema : Schema) (rows : List RowEntry) (class n index : ℕ) (old new : List FieldValue) (kind : ScalarKind) (wanted : Option Wanted)
+    (u v : Option FieldValue) (a b : Option Value) (ops0 ops : List Op) → u ≡ find (λ (f : FieldValue). f.field) n old →
+    v ≡ find (λ (f : FieldValue). f.field) n new → index_of u v ≡ Some index → wanted ≡ field_wants schema class index → kind ≡ kind_wanted wanted →
+    a ≡ option_map (λ (f : FieldValue). f.value) u → b ≡ option_map (λ (f : FieldValue). f.value) v →
+    ops ≡ ops0 ++ map told (place_edit (Field index) (Field index) rows (Some (AnItem (Scalar kind))) a b) →
+    ops ≡ ops0 ++ field_told schema rows class old new n
+field_next schema rows class n index old new kind wanted u v a b ops0 ops is_u is_v found is_wanted is_kind is_a is_b more =
+    let value = option_map (λ (f : FieldValue). f.value) in
+    let by_kind : kind ≡ kind_wanted (field_wants schema class index) = is_kind ∙ ap kind_wanted is_wanted in
+    more ∙ ap (λ es. ops0 ++ map told es)
+    (ap (λ k. place_edit (Field index) (Field index) rows (Some (AnItem (Scalar k))) a b) by_kind
+    ∙ (place_by_kind (Field index) (Field index) rows (field_wants schema class index) a b
+    ∙ (ap (λ i. place_edit (Field i) (Field i) rows (field_wants schema class i) a b) (found_index n index old new u v is_u is_v found)
+    ∙ (ap (λ x. place_edit (Field n) (Field n) rows (field_wants schema class n) x b) (is_a ∙ ap value is_u)
+    ∙ ap (λ x. place_edit (Field n) (Field n) rows (field_wants schema class n) (field_value old n) x) (is_b ∙ ap value is_v)))))
 
 -- ---- blocks
 

@@ -5,20 +5,12 @@ use Rattle.schema_model.specs.Classes.{Schema}
 use Rattle.state_model.specs.declared.row.Row.{Row}
 use Rattle.state_model.specs.declared.row.RowEntry.{RowEntry}
 use Rattle.state_model.specs.Rows.{kinds_of}
-use Rattle.state_model.specs.Places as places
 use Rattle.wire_model.specs.declared.op.Op.{Op}
 use Rattle.wire_model.specs.declared.op.Block.{Block}
 use Rattle.wire_model.specs.Edits.{EditBlock}
 use Rattle.wire_model.specs.Effect.{carried_by, with_linked}
 use Rattle.wire_model.specs.Grammar.{resolved}
 use Rattle.wire_model.specs.Resolved.{holder_kind, resolved_ops}
-use Rattle.canon_patch.specs.declared.wanted.Wanted.{Wanted}
-use Rattle.canon_patch.specs.declared.wanted.Wanted.TheVariants as wanted
-
--- what a place holds, as the definitions have it
-abbrev pub as_wanted : Wanted → places.Wanted
-as_wanted (wanted.Item item) = places.AnItem item
-as_wanted (wanted.Collection home) = places.ACollection home
 
 -- a block with what its links lead to, against the rows at hand
 abbrev pub meant : Schema → List RowEntry → Block → EditBlock

@@ -3,7 +3,7 @@ use Rattle.std.specs.Prelude.{◌≡◌, ℕ, Bool, true, false, List, [], ◌�
 use Rattle.schema_model.specs.declared.value.Value.{Value}
 use Rattle.schema_model.specs.declared.value.Value.TheVariants.{Link}
 use Rattle.state_model.specs.declared.row.RowEntry.{RowEntry}
-use Rattle.state_model.specs.Places.{Wanted}
+use Rattle.state_model.specs.declared.place.Wanted.{Wanted}
 use Rattle.state_model.specs.Reached.{is_among}
 use Rattle.state_model.specs.Values.{same_value}
 use Rattle.wire_model.specs.declared.op.Op.{Op}

@@ -1,5 +1,5 @@
 -- The operations on places as they are told, place by place.
-use Rattle.std.specs.Prelude.{ℕ, List, map, Option, slice_get}
+use Rattle.std.specs.Prelude.{ℕ, List, map, Option, Some, None, slice_get}
 use Rattle.std.specs.List.{flat_map, range_with_len}
 use Rattle.schema_model.specs.Classes.{Schema}
 use Rattle.schema_model.specs.declared.value.Value.{Value}
@@ -7,11 +7,18 @@ use Rattle.state_model.specs.declared.row.RowEntry.{RowEntry}
 use Rattle.state_model.specs.declared.row.FieldValue.{FieldValue}
 use Rattle.state_model.specs.declared.row.MapItem.{MapItem}
 use Rattle.state_model.specs.declared.row.SetItem.{SetItem}
-use Rattle.state_model.specs.Places.{Wanted, field_wants}
+use Rattle.state_model.specs.declared.place.Wanted.{Wanted}
+use Rattle.state_model.specs.Places.{field_wants}
 use Rattle.wire_model.specs.declared.op.OpKey.TheVariants.{Field, Item, Named}
 use Rattle.wire_model.specs.declared.op.Op.{Op}
 use Rattle.wire_model.specs.Edits.{told}
 use Rattle.wire_model.specs.Patch.{place_edit, field_value, map_item, item_key, item_value, set_value}
+
+-- the index of a field that is in one list or in both
+abbrev pub index_of : Option FieldValue → Option FieldValue → Option ℕ
+index_of old (Some f) = Some f.field
+index_of (Some f) None = Some f.field
+index_of None None = None
 
 -- the operation on a field
 abbrev pub field_told : Schema → List RowEntry → ℕ → List FieldValue → List FieldValue → ℕ → List Op

@@ -2,15 +2,16 @@
 ghost use Rattle.std.specs.Prelude.{◌≡◌, ◌++◌, ◌&&◌, OnOk, Some, is_some, map, option_copied, slice_get};
 ghost use Rattle.schema_model.specs.Classes.{item_of};
 ghost use Rattle.schema_model.specs.declared.class.Item.TheVariants.{Scalar};
-ghost use Rattle.state_model.specs.Places.{AnItem, instance_class, is_filtered};
+ghost use Rattle.state_model.specs.declared.place.Wanted.TheVariants.{Item as AnItem};
+ghost use Rattle.state_model.specs.Places.{instance_class, is_filtered};
 ghost use Rattle.wire_model.specs.Edits.{told};
 ghost use Rattle.wire_model.specs.Patch.{array_edits, slot_edits};
 ghost use Rattle.canon_patch.specs.Told.{first_told};
 
 use crate::by_ref::push_by_ref;
-use crate::place::{kind_of_items, push_place};
+use crate::place::{kind_wanted, push_place};
 use schema_model::{FieldDecl, Home, Item, Memory, ScalarKind, Schema, Value};
-use state_model::{Rows, Values};
+use state_model::{Rows, Values, is_filtered, item_wants};
 use std::alloc::Global;
 use wire_model::{OpKey, Ops};
 
@@ -20,19 +21,19 @@ pub(crate) fn push_values(
     ops: &mut Ops,
     schema: &Schema,
     rows: &Rows,
-    home: Home,
+    home: &Home,
     old: &Values,
     new: &Values,
 ) -> Result<(), Memory>
-    ensures { OnOk result (ops.new ≡ ops.old ++ map told (array_edits schema.now rows.now home old.now new.now)) }
+    ensures { OnOk result (ops.new ≡ ops.old ++ map told (array_edits schema.now rows.now home.now old.now new.now)) }
 {
-    if is_filtered(schema, &home) {
+    if is_filtered(schema, *home) {
         push_by_ref(
             alloc,
             ops,
             schema,
             rows,
-            home,
+            *home,
             old.as_slice(),
             new.as_slice(),
         )
@@ -42,7 +43,7 @@ pub(crate) fn push_values(
             ops,
             schema,
             rows,
-            home,
+            *home,
             old.as_slice(),
             new.as_slice(),
         )
@@ -62,7 +63,7 @@ fn push_slots(
 ) -> Result<(), Memory>
     ensures { OnOk result (ops.new ≡ ops.old ++ map told (slot_edits schema.now rows.now home old.now new.now)) }
 {
-    let kind = kind_of_items(schema, home);
+    let kind = kind_wanted(item_wants(schema, home));
     let Ok(count) = u32::try_from(old.len().max(new.len())) else {
         return Err(Memory);
     };
@@ -99,29 +100,4 @@ fn value_at(values: &[Value], at: u32) -> Option<&Value>
     ensures { option_copied result ≡ slice_get values.now at }
 {
     values.get(at as usize)
-}
-
-// An array of a home is filtered: the home is tagged and its items are instances.
-fn is_filtered(schema: &Schema, home: &Home) -> bool
-    ensures { result ≡ is_filtered schema.now home.now }
-{
-    match schema.home_field(*home) {
-        None => false,
-        Some(field) => is_tagged_list(field),
-    }
-}
-
-fn is_tagged_list(field: &FieldDecl) -> bool
-    ensures { result ≡ (is_some field.now.tag && is_some (instance_class (item_of field.now.shape))) }
-{
-    field.tag.is_some() && holds_instances(field)
-}
-
-fn holds_instances(field: &FieldDecl) -> bool
-    ensures { result ≡ is_some (instance_class (item_of field.now.shape)) }
-{
-    match field.shape.item() {
-        Item::Class(_) => true,
-        Item::Scalar(_) => false,
-    }
 }

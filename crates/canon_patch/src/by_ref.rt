@@ -3,7 +3,7 @@ ghost use Rattle.std.specs.Prelude.{◌≡◌, ◌++◌, ◌||◌, ◌∷◌, []
 ghost use Rattle.std.specs.List.{flat_map};
 ghost use Rattle.schema_model.specs.declared.class.Item.TheVariants.{Scalar};
 ghost use Rattle.schema_model.specs.declared.value.Value.TheVariants.{Link};
-ghost use Rattle.state_model.specs.Places.{AnItem};
+ghost use Rattle.state_model.specs.declared.place.Wanted.TheVariants.{Item as AnItem};
 ghost use Rattle.state_model.specs.Reached.{is_among};
 ghost use Rattle.state_model.specs.Values.{same_value};
 ghost use Rattle.wire_model.specs.Edits.{told};
@@ -11,10 +11,10 @@ ghost use Rattle.wire_model.specs.Patch.{drop_edit, gone_of, kept_of, ref_edits,
 ghost use Rattle.canon_patch.specs.ByRef.{AreLinksOf, after_all, after_first, come_told, gone_told, is_ended, push_told};
 
 use crate::marks::add_number;
-use crate::place::{kind_of_items, value_told};
+use crate::place::{kind_wanted, value_told};
 use plain_rows::NumberSet;
 use schema_model::{Home, Memory, ScalarKind, Schema, Value};
-use state_model::{Rows, same_value};
+use state_model::{Rows, item_wants, same_value};
 use std::alloc::Global;
 use wire_model::{Op, Ops};
 
@@ -32,7 +32,7 @@ pub(crate) fn push_by_ref(
 ) -> Result<(), Memory>
     ensures { OnOk result (ops.new ≡ ops.old ++ map told (ref_edits schema.now rows.now home old.now new.now)) }
 {
-    let kind = kind_of_items(schema, home);
+    let kind = kind_wanted(item_wants(schema, home));
     let old_links = links_of(alloc, old)?;
     let new_links = links_of(alloc, new)?;
     if is_appended(old, &old_links, new, &new_links) {

@@ -1,16 +1,16 @@
 //! The operations on an instance.
-ghost use Rattle.std.specs.Prelude.{◌≡◌, ◌++◌, OnOk, Some, map, option_copied};
+ghost use Rattle.std.specs.Prelude.{◌≡◌, ◌++◌, OnOk, map, option_copied};
 ghost use Rattle.std.specs.List.{flat_map};
-ghost use Rattle.schema_model.specs.declared.place.Home.{Home};
-ghost use Rattle.state_model.specs.Places.{field_wants, wanted_by};
+ghost use Rattle.std.specs.Option.{option_map};
+ghost use Rattle.state_model.specs.declared.row.FieldValue.{FieldValue};
 ghost use Rattle.wire_model.specs.Edits.{told};
-ghost use Rattle.wire_model.specs.Patch.{field_edits, field_value, kind_wanted};
-ghost use Rattle.canon_patch.specs.Told.{field_told};
+ghost use Rattle.wire_model.specs.Patch.{field_edits};
+ghost use Rattle.canon_patch.specs.Told.{field_told, index_of};
 
 use crate::numbers::either_numbers;
-use crate::place::{kind_of_item, push_place};
-use schema_model::{Memory, ScalarKind, Schema, Shape, TypeNum, Value};
-use state_model::{FieldValues, Rows};
+use crate::place::{kind_wanted, push_place};
+use schema_model::{Memory, Schema, TypeNum, Value};
+use state_model::{FieldValue, FieldValues, Rows, field_wants};
 use std::alloc::Global;
 use wire_model::{OpKey, Ops};
 
@@ -59,8 +59,7 @@ fn push_each(
     Ok(())
 }
 
-// The operation on a field.
-#[tactic(auto, using(crate::proofs::Told::place_by_kind))]
+// The operation on the field of a number, where either list has it.
 fn push_field(
     alloc: Global,
     ops: &mut Ops,
@@ -73,42 +72,33 @@ fn push_field(
 ) -> Result<(), Memory>
     ensures { OnOk result (ops.new ≡ ops.old ++ field_told schema.now rows.now class.now old.now new.now number) }
 {
-    // The numbers of fields are below 256.
-    let Ok(index) = u8::try_from(number) else {
-        return Err(Memory);
+    let (before, after) = (old.get(number), new.get(number));
+    let Some(index) = index_of(before, after) else {
+        return Ok(());
     };
     push_place(
         alloc,
         ops,
         rows,
         OpKey::Field(index),
-        kind_of_field(schema, *class, index),
-        value_of(old, number),
-        value_of(new, number),
+        kind_wanted(field_wants(schema, *class, index)),
+        value_of(before),
+        value_of(after),
     )
 }
 
-fn value_of(fields: &FieldValues, number: u32) -> Option<&Value>
-    ensures { option_copied result ≡ field_value fields.now number }
+// The index of a field that is in one list or in both.
+fn index_of(old: Option<&FieldValue>, new: Option<&FieldValue>) -> Option<u8>
+    ensures { result ≡ index_of (option_copied old.entry) (option_copied new.entry) }
 {
-    fields.get(number).map(|field| &field.value)
-}
-
-// The scalar kind of a field; a number's where it is none.
-fn kind_of_field(schema: &Schema, class: TypeNum, index: u8) -> ScalarKind
-    ensures { result ≡ kind_wanted (field_wants schema.now class index) }
-{
-    match schema.field(class, index) {
-        None => ScalarKind::Number,
-        Some(field) => kind_of_one(field.shape),
+    match (old, new) {
+        (_, Some(field)) | (Some(field), None) => Some(field.field),
+        (None, None) => None,
     }
 }
 
-fn kind_of_one(shape: Shape) -> ScalarKind
-    ensures { (home : Home) → result ≡ kind_wanted (Some (wanted_by shape home)) }
+fn value_of(field: Option<&FieldValue>) -> Option<&Value>
+    ensures { option_copied result ≡ option_map (λ (f : FieldValue). f.value) (option_copied field.entry) }
 {
-    match shape {
-        Shape::One(item) => kind_of_item(item),
-        Shape::Map(_) | Shape::Array(_) | Shape::Set(_) => ScalarKind::Number,
-    }
+    field.map(|field| &field.value)
 }

@@ -7,6 +7,7 @@ ghost use Rattle.wire_model.specs.Resolved.{holder_kind};
 ghost use Rattle.wire_model.specs.declared.op.OpKey.TheVariants.{Item};
 ghost use Rattle.canon_patch.specs.Applying.{with_link, with_links};
 
+use crate::row::emptied;
 use crate::wanted::{new_collection, new_instance, wanted_at};
 use lists::{Memory, Rising, Seq};
 use schema_model::{RefNum, Schema, TypeNum};
@@ -22,18 +23,6 @@ pub fn holder_kind(alloc: Global, rows: &Tree<RowEntry>, who: RefNum) -> Row
     match rows.get(who.0) {
         Some(entry) => emptied(alloc, &entry.row),
         None => Row::Struct(TypeNum(0), Rising::new(alloc)),
-    }
-}
-
-// A row without its places.
-fn emptied(alloc: Global, row: &Row) -> Row
-    ensures { result ≡ emptied row.now }
-{
-    match row {
-        Row::Struct(class, _) => Row::Struct(*class, Rising::new(alloc)),
-        Row::Map(home, _) => Row::Map(*home, Rising::new(alloc)),
-        Row::Array(home, _) => Row::Array(*home, Seq::new(alloc)),
-        Row::Set(home, _) => Row::Set(*home, Rising::new(alloc)),
     }
 }
 

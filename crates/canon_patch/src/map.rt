@@ -2,16 +2,16 @@
 ghost use Rattle.std.specs.Prelude.{◌≡◌, ◌++◌, Some, OnOk, map, option_copied};
 ghost use Rattle.std.specs.List.{flat_map};
 ghost use Rattle.schema_model.specs.declared.class.Item.TheVariants.{Scalar};
-ghost use Rattle.state_model.specs.Places.{AnItem};
+ghost use Rattle.state_model.specs.declared.place.Wanted.TheVariants.{Item as AnItem};
 ghost use Rattle.wire_model.specs.declared.op.OpKey.TheVariants.{Item, Named};
 ghost use Rattle.wire_model.specs.Edits.{told};
 ghost use Rattle.wire_model.specs.Patch.{item_key, item_value, map_edits, place_edit};
 ghost use Rattle.canon_patch.specs.Told.{item_told};
 
 use crate::numbers::either_numbers;
-use crate::place::{is_link, kind_of_items, push_added, push_exchanged, push_replaced};
+use crate::place::{is_link, kind_wanted, push_added, push_exchanged, push_replaced};
 use schema_model::{Home, Memory, ScalarKind, Schema};
-use state_model::{MapItem, MapItems, Rows, same_value};
+use state_model::{MapItem, MapItems, Rows, item_wants, same_value};
 use std::alloc::Global;
 use wire_model::{Op, OpKey, Ops};
 
@@ -28,7 +28,7 @@ pub(crate) fn push_items(
 ) -> Result<(), Memory>
     ensures { OnOk result (ops.new ≡ ops.old ++ map told (map_edits schema.now rows.now home old.now new.now)) }
 {
-    let kind = kind_of_items(schema, home);
+    let kind = kind_wanted(item_wants(schema, home));
     let numbers = either_numbers(alloc, old, new)?;
     push_each(alloc, ops, rows, kind, old, new, numbers.as_slice())
 }

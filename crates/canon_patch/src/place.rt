@@ -2,14 +2,15 @@
 ghost use Rattle.std.specs.Prelude.{◌≡◌, ◌∷◌, [], ◌++◌, IfOk, OnOk, Some, map, option_copied};
 ghost use Rattle.schema_model.specs.declared.class.Item.TheVariants.{Scalar};
 ghost use Rattle.schema_model.specs.declared.value.Value.TheVariants.{Link};
-ghost use Rattle.state_model.specs.Places.{AnItem, item_wants, row_class};
+ghost use Rattle.state_model.specs.declared.place.Wanted.TheVariants.{Item as AnItem};
+ghost use Rattle.state_model.specs.Places.{item_wants, row_class};
 ghost use Rattle.state_model.specs.Values.{is_link};
 ghost use Rattle.wire_model.specs.Edits.{Add, DeleteAdd, Replace, told, told_link, told_value};
 ghost use Rattle.wire_model.specs.Patch.{carried, changed_place, kind_in, kind_wanted, place_edit};
 
 use lists::Seq;
-use schema_model::{Home, Item, Memory, RefNum, ScalarKind, Schema, TypeNum, Value};
-use state_model::{Row, Rows, same_value};
+use schema_model::{Item, Memory, RefNum, ScalarKind, TypeNum, Value};
+use state_model::{Row, Rows, Wanted, same_value};
 use std::alloc::Global;
 use wire_model::{Op, OpKey, OpValue, Ops};
 
@@ -136,18 +137,18 @@ pub(crate) fn is_link(value: &Value) -> bool
     }
 }
 
-// The scalar kind of the items of a home; a number's where they are instances.
-pub(crate) fn kind_of_items(schema: &Schema, home: Home) -> ScalarKind
-    ensures { result ≡ kind_wanted (item_wants schema.now home) }
+// The scalar kind of what a place is declared to hold; a number's where it holds no scalar.
+pub(crate) fn kind_wanted(wanted: Option<Wanted>) -> ScalarKind
+    ensures { result ≡ kind_wanted wanted }
 {
-    match schema.home_field(home) {
-        None => ScalarKind::Number,
-        Some(field) => kind_of_item(field.shape.item()),
+    match wanted {
+        Some(Wanted::Item(item)) => kind_of_item(item),
+        Some(Wanted::Collection(_)) | None => ScalarKind::Number,
     }
 }
 
 // The scalar kind of an item; a number's where it is an instance.
-pub(crate) fn kind_of_item(item: Item) -> ScalarKind
+fn kind_of_item(item: Item) -> ScalarKind
     ensures { result ≡ kind_wanted (Some (AnItem item)) }
 {
     match item {

@@ -33,7 +33,7 @@ pub(crate) fn push_row(
             push_items(alloc, ops, schema, rows, *home, old, new)
         }
         (Row::Array(_, old), Row::Array(home, new)) => {
-            push_values(alloc, ops, schema, rows, *home, old, new)
+            push_values(alloc, ops, schema, rows, home, old, new)
         }
         (Row::Set(_, old), Row::Set(home, new)) => {
             push_elements(alloc, ops, schema, rows, *home, old, new)
@@ -84,7 +84,7 @@ fn push_start(ops: &mut Ops, row: &Row) -> Result<(), Memory>
 }
 
 // A row without its places. It takes no memory.
-fn emptied(alloc: Global, row: &Row) -> Row
+pub(crate) fn emptied(alloc: Global, row: &Row) -> Row
     ensures { result ≡ emptied row.now }
 {
     match row {

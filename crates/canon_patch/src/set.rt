@@ -2,15 +2,15 @@
 ghost use Rattle.std.specs.Prelude.{◌≡◌, ◌++◌, OnOk, Some, map, option_copied};
 ghost use Rattle.std.specs.List.{flat_map};
 ghost use Rattle.schema_model.specs.declared.class.Item.TheVariants.{Scalar};
-ghost use Rattle.state_model.specs.Places.{AnItem};
+ghost use Rattle.state_model.specs.declared.place.Wanted.TheVariants.{Item as AnItem};
 ghost use Rattle.wire_model.specs.Edits.{told};
 ghost use Rattle.wire_model.specs.Patch.{set_edits, set_value};
 ghost use Rattle.canon_patch.specs.Told.{element_told};
 
 use crate::numbers::either_numbers;
-use crate::place::{kind_of_items, push_place};
+use crate::place::{kind_wanted, push_place};
 use schema_model::{Home, Memory, ScalarKind, Schema, Value};
-use state_model::{Rows, SetItems};
+use state_model::{Rows, SetItems, item_wants};
 use std::alloc::Global;
 use wire_model::{OpKey, Ops};
 
@@ -27,7 +27,7 @@ pub(crate) fn push_elements(
 ) -> Result<(), Memory>
     ensures { OnOk result (ops.new ≡ ops.old ++ map told (set_edits schema.now rows.now home old.now new.now)) }
 {
-    let kind = kind_of_items(schema, home);
+    let kind = kind_wanted(item_wants(schema, home));
     let numbers = either_numbers(alloc, old, new)?;
     push_each(alloc, ops, rows, kind, old, new, numbers.as_slice())
 }

@@ -4,68 +4,34 @@ ghost use Rattle.std.specs.Option.{option_map, option_map_or};
 ghost use Rattle.schema_model.specs.declared.class.FieldDecl.{FieldDecl};
 ghost use Rattle.schema_model.specs.Classes.{home_field};
 ghost use Rattle.state_model.specs.declared.row.Row.TheVariants.{Array};
-ghost use Rattle.state_model.specs.Places.{AnItem, field_wants, item_wants, collection_of, wanted_by};
+ghost use Rattle.state_model.specs.declared.place.Wanted.TheVariants.{Item as AnItem};
+ghost use Rattle.state_model.specs.Places.{collection_of};
 ghost use Rattle.wire_model.specs.Grammar.{wants_at, declared_class, new_instance, new_collection};
-ghost use Rattle.canon_patch.specs.Applying.{as_wanted};
 
 use lists::{Rising, Seq};
 use schema_model::{Home, Item, Schema, Shape, TypeNum};
-use state_model::Row;
+use state_model::{Row, Wanted, field_wants, item_wants};
 use std::alloc::Global;
 use wire_model::OpKey;
 
-/// What a place is declared to hold: an item, or a collection of a home.
-#[derive(Clone, Copy, Debug, PartialEq, Eq)]
-pub enum Wanted {
-    Item(Item),
-    Collection(Home),
-}
-
 /// What the place at a key of a holder is declared to hold.
 pub fn wanted_at(schema: &Schema, holder: &Row, key: &OpKey) -> Option<Wanted>
-    ensures { option_map as_wanted result ≡ wants_at schema.now holder.now key.now }
+    ensures { result ≡ wants_at schema.now holder.now key.now }
 {
     match holder {
         Row::Struct(class, _) => match key {
-            OpKey::Field(index) => field_wanted(schema, *class, *index),
+            OpKey::Field(index) => field_wants(schema, *class, *index),
             OpKey::Item(_) | OpKey::Named(_, _) => None,
         },
-        Row::Map(home, _) => item_wanted(schema, *home),
-        Row::Array(home, _) => item_wanted(schema, *home),
-        Row::Set(home, _) => item_wanted(schema, *home),
+        Row::Map(home, _) => item_wants(schema, *home),
+        Row::Array(home, _) => item_wants(schema, *home),
+        Row::Set(home, _) => item_wants(schema, *home),
     }
-}
-
-// What a field of a class is declared to hold.
-fn field_wanted(schema: &Schema, class: TypeNum, index: u8) -> Option<Wanted>
-    ensures { option_map as_wanted result ≡ field_wants schema.now class index }
-{
-    let field = schema.field(class, index)?;
-    let home = schema.home(class, index)?;
-    Some(wanted_by(field.shape, home))
-}
-
-// What a field of this shape and home holds.
-fn wanted_by(shape: Shape, home: Home) -> Wanted
-    ensures { as_wanted result ≡ wanted_by shape home }
-{
-    match shape {
-        Shape::One(item) => Wanted::Item(item),
-        Shape::Map(_) | Shape::Array(_) | Shape::Set(_) => Wanted::Collection(home),
-    }
-}
-
-// What the items of a collection are declared to be.
-fn item_wanted(schema: &Schema, home: Home) -> Option<Wanted>
-    ensures { option_map as_wanted result ≡ item_wants schema.now home }
-{
-    let field = schema.home_field(home)?;
-    Some(Wanted::Item(field.shape.item()))
 }
 
 /// An instance without fields: of the marked class, or without a mark of the declared one.
 pub fn new_instance(alloc: Global, mark: Option<TypeNum>, wanted: Option<Wanted>) -> Row
-    ensures { result ≡ new_instance mark (option_map as_wanted wanted) }
+    ensures { result ≡ new_instance mark wanted }
 {
     let class = match mark {
         Some(class) => class,
@@ -76,7 +42,7 @@ pub fn new_instance(alloc: Global, mark: Option<TypeNum>, wanted: Option<Wanted>
 
 // The class of which a place is declared to hold instances.
 fn declared_class(wanted: Option<Wanted>) -> TypeNum
-    ensures { result ≡ declared_class (option_map as_wanted wanted) }
+    ensures { result ≡ declared_class wanted }
 {
     match wanted {
         Some(Wanted::Item(item)) => instance_class(item),
@@ -97,7 +63,7 @@ fn instance_class(item: Item) -> TypeNum
 
 /// A collection without items, of the home that a place is declared to hold.
 pub fn new_collection(alloc: Global, schema: &Schema, wanted: Option<Wanted>) -> Row
-    ensures { result ≡ new_collection schema.now (option_map as_wanted wanted) }
+    ensures { result ≡ new_collection schema.now wanted }
 {
     match wanted {
         Some(wanted) => collection_wanted(alloc, schema, wanted),
@@ -107,7 +73,7 @@ pub fn new_collection(alloc: Global, schema: &Schema, wanted: Option<Wanted>) ->
 
 // The empty collection that a place is declared to hold.
 fn collection_wanted(alloc: Global, schema: &Schema, wanted: Wanted) -> Row
-    ensures { result ≡ new_collection schema.now (Some (as_wanted wanted)) }
+    ensures { result ≡ new_collection schema.now (Some wanted) }
 {
     match wanted {
         Wanted::Collection(home) => {

@@ -21,7 +21,9 @@ use Rattle.state_model.specs.declared.row.FieldValue.{FieldValue}
 use Rattle.state_model.specs.declared.command.Command.TheVariants as command
 use Rattle.state_model.specs.Values.{text_size}
 use Rattle.state_model.specs.Rows.{text_bytes_of, place_count, values_in}
-use Rattle.state_model.specs.Places.{Wanted, AnItem, field_wants}
+use Rattle.state_model.specs.declared.place.Wanted.{Wanted}
+use Rattle.state_model.specs.declared.place.Wanted.TheVariants.{Item as AnItem}
+use Rattle.state_model.specs.Places.{field_wants}
 use Rattle.state_model.specs.State.{State}
 use Rattle.state_model.specs.Commands.{do_command, first_cause, answer_of, is_wrong_type, is_past_range}
 use Rattle.state_model.specs.declared.command.TableFault.{TableFault}

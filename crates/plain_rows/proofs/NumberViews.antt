@@ -21,7 +21,9 @@ use Rattle.state_model.specs.declared.row.RowEntry.{RowEntry}
 use Rattle.state_model.specs.declared.row.FieldValue.{FieldValue}
 use Rattle.state_model.specs.Values.{held_by}
 use Rattle.state_model.specs.Rows.{held_in, rows_of}
-use Rattle.state_model.specs.Places.{Wanted, AnItem, field_wants, wanted_of}
+use Rattle.state_model.specs.declared.place.Wanted.{Wanted}
+use Rattle.state_model.specs.declared.place.Wanted.TheVariants.{Item as AnItem}
+use Rattle.state_model.specs.Places.{field_wants, wanted_of}
 use Rattle.state_model.specs.Reached.{freed, reached}
 use Rattle.state_model.specs.Shown.{shows_field, field_shown, declared_field_shown, permitted, shared, shown}
 use Rattle.plain_rows.specs.Numbers.{is_number_schema, is_number_class, is_number_classes, is_number_field, is_number_shape, is_number_at, is_number, number_rows, number_count, AreNumbers, AreNumberRows}

@@ -1,5 +1,2 @@
 pub mod RoomSteps
-pub mod NumberPatches
-pub mod NumberFrames
-pub mod NumberOps
 pub mod SharedPatch

@@ -1,7 +1,6 @@
 -- What the step does to a room of at most one session over a row of numbers.
-use Rattle.std.proofs.Common.{◌≡◌, ℕ, Bool, true, false, cond, not, ◌||◌, List, [], ◌∷◌, ◌++◌, map, Option, Some, None, Ok, refl, sym, ap, ◌∙◌, subst, arith}
-use Rattle.std.specs.Prelude.{◌^◌, ◌<◌, ℤ, is_some}
-use Rattle.std.specs.List.{flat_map, filter}
+use Rattle.std.proofs.Common.{◌≡◌, ℕ, Bool, true, false, cond, ◌||◌, List, [], ◌∷◌, ◌++◌, map, Some, None, refl, sym, ap, ◌∙◌, subst}
+use Rattle.std.specs.Prelude.{◌^◌, ◌<◌, ℤ}
 use Rattle.std.specs.Str.{bytes_eq}
 use Rattle.std.proofs.lemmas.Bool.{and_parts, and_from, eqb-true, eq-eqb, false_from_ne_true}
 use Rattle.schema_model.specs.Classes.{Schema}
@@ -10,9 +9,7 @@ use Rattle.schema_model.specs.declared.value.Value.TheVariants as value
 use Rattle.state_model.specs.declared.row.RowEntry.{RowEntry}
 use Rattle.state_model.specs.declared.row.FieldValue.{FieldValue}
 use Rattle.state_model.specs.declared.command.Command.TheVariants as command
-use Rattle.state_model.specs.Rows.{root_alone}
 use Rattle.state_model.specs.Reached.{freed}
-use Rattle.state_model.specs.State.{State}
 use Rattle.state_model.specs.Commands.{do_command}
 use Rattle.state_model.specs.Shown.{permitted, shared}
 use Rattle.wire_model.specs.Frame.{full_state, state_frame, has_operation}
@@ -21,17 +18,15 @@ use Rattle.frame_model.specs.declared.frame.ServerFrame.TheVariants as server
 use Rattle.room_model.specs.declared.definition.RoomDef.{RoomDef}
 use Rattle.room_model.specs.declared.event.RoomOut.{RoomOut}
 use Rattle.room_model.specs.declared.event.RoomOut.TheVariants as out
-use Rattle.room_model.specs.declared.event.Stage.{Stage}
 use Rattle.room_model.specs.declared.event.Stage.TheVariants as stage
-use Rattle.room_model.specs.Room.{RoomValue, Session, after_reserve, after_enter, with_sessions, change_session, acknowledged, acknowledged_at, after_tick, after_answer, with_state}
+use Rattle.room_model.specs.Room.{RoomValue, after_reserve, after_enter, after_tick, after_answer}
 use Rattle.plain_rows.specs.Numbers.{is_number_schema, AreNumberRows, number_rows, number_count, AreNumbers}
 use Rattle.plain_rows.proofs.NumberViews.{permitted_number_rows, freed_numbers}
 use Rattle.plain_rows.proofs.NumberCommands.{put_accepted, numbers_put}
 use Rattle.room_core.specs.declared.place.Phase.{Phase}
 use Rattle.room_core.specs.declared.place.Phase.TheVariants.{Empty, Reserved, Joining, Due, Live}
-use Rattle.state_model.specs.Members.{no_members}
 use Rattle.room_core.specs.Steps.{put_number, acknowledged_phase, frame_room, ticked_phase, sent_to, phase_outs}
-use Rattle.room_core.specs.Values.{room_at, patch_of, session_at, sessions_at, seats_at, taken_seats}
+use Rattle.room_core.specs.Values.{room_at, session_at, sessions_at, seats_at, taken_seats}
 use Rattle.room_core.specs.Takes.{has_no_session}
 use Rattle.room_core.specs.Numbered.{Numbered}
 use Rattle.state_model.specs.declared.row.Row.{Row}
@@ -99,7 +94,7 @@ frame_other s d c rows sh Joining id session token lapse other = rw other refl
 frame_other s d c rows sh Due id session token lapse other = rw other refl
 frame_other s d c rows sh Live id session token lapse other = rw other refl
 
-id_same : (a : List ℕ) → bytes_eq a a ≡ true
+pub id_same : (a : List ℕ) → bytes_eq a a ≡ true
 id_same [] = refl
 id_same (x ∷ xs) = and_from _ _ (eq-eqb x x refl) (id_same xs)
 

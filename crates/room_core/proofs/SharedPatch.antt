@@ -8,8 +8,8 @@ use Rattle.wire_model.specs.OpBytes.{block_bytes}
 use Rattle.wire_ops.specs.Writable.{are_writable}
 use Rattle.wire_ops.proofs.NumbersWritable.{number_blocks_writable}
 use Rattle.plain_rows.specs.Numbers.{is_number_schema, number_count, AreNumberRows}
-use Rattle.room_core.specs.NumberPatch.{number_ops, root_block}
-use Rattle.room_core.proofs.NumberOps.{patch_by_fields, frame_by_fields, operation_by_fields, written_by_fields}
+use Rattle.number_laws.specs.NumberPatch.{number_ops, root_block}
+use Rattle.number_laws.proofs.NumberOps.{patch_by_fields, frame_by_fields, operation_by_fields, written_by_fields}
 
 -- the blocks of the patch, field by field
 by_fields : (s : Schema) (old new : List RowEntry) (blocks : List Block) → is_number_schema s ≡ true → (n : AreNumberRows s old) (m : AreNumberRows s new) → blocks ≡ patch s old new →

@@ -2,4 +2,3 @@ pub mod Values
 pub mod Takes
 pub mod Numbered
 pub mod Steps
-pub mod NumberPatch

@@ -13,7 +13,7 @@ use Rattle.room_model.specs.declared.event.RoomOut.TheVariants as out
 use Rattle.room_model.specs.Room.{RoomValue, with_sessions, change_session, acknowledged}
 use Rattle.plain_rows.specs.Numbers.{field_index}
 use Rattle.room_core.specs.declared.place.Phase.{Phase}
-use Rattle.room_core.specs.declared.place.Phase.TheVariants.{Empty, Reserved, Joining, Due, Live}
+use Rattle.room_core.specs.declared.place.Phase.TheVariants.{Joining, Due, Live}
 use Rattle.room_core.specs.Values.{patch_of}
 
 -- the fields with a number in one of them

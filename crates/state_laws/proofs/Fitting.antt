@@ -15,7 +15,9 @@ use Rattle.state_model.specs.declared.row.Row.TheVariants.{Struct, Map, Array, S
 use Rattle.state_model.specs.declared.row.RowEntry.{RowEntry}
 use Rattle.state_model.specs.Values.{held_by}
 use Rattle.state_model.specs.Rows.{row_at, is_live, emptied}
-use Rattle.state_model.specs.Places.{Wanted, AnItem, ACollection, empty_collection, same_kind, same_home, row_home, row_class}
+use Rattle.state_model.specs.declared.place.Wanted.{Wanted}
+use Rattle.state_model.specs.declared.place.Wanted.TheVariants.{Item as AnItem, Collection as ACollection}
+use Rattle.state_model.specs.Places.{empty_collection, same_kind, same_home, row_home, row_class}
 use Rattle.state_model.specs.Reached.{is_among}
 use Rattle.state_model.specs.Sound.{is_instance_of, is_collection_of, fits_place, has_kind}
 use Rattle.state_laws.proofs.Numbers.{live_at}

@@ -13,7 +13,7 @@ use Rattle.state_model.specs.declared.command.Command.TheVariants.{Make, MakeFor
 use Rattle.state_model.specs.declared.command.TableFault.{TableFault}
 use Rattle.state_model.specs.declared.command.TableFault.TheVariants as fault
 use Rattle.state_model.specs.Rows.{put_row}
-use Rattle.state_model.specs.Places.{AnItem, ACollection}
+use Rattle.state_model.specs.declared.place.Wanted.TheVariants.{Item as AnItem, Collection as ACollection}
 use Rattle.state_model.specs.State.{State, ItemCount, new_state}
 use Rattle.state_model.specs.Commands.{holder_of, value_put, named_by, made_row, makes_row, has_key, has_value, put_key, wanted_for, gives_number, adds_place, edited, counts_items, put_count, with_new, with_change, row_for, number_made, do_command}
 use Rattle.state_model.proofs.Examples as ex

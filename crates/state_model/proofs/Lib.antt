@@ -1,3 +1,4 @@
+pub mod Declared
 pub mod Examples
 pub mod Rises
 pub mod Zoo

@@ -12,7 +12,8 @@ use Rattle.state_model.specs.declared.row.Row.TheVariants.{Struct, Map, Array, S
 use Rattle.state_model.specs.Values.{same_whole, same_truth, same_value, held_by, is_link, text_size}
 use Rattle.state_model.specs.Rows.{numbers_of, row_at, is_live, values_in, held_in, rows_of, place_count, key_bytes, text_bytes_of, emptied, kinds_of, put_row, root_alone}
 use Rattle.state_model.specs.State.{new_state, next_item, swept, rows_limit, places_limit, text_limit, one_text_limit, last_number}
-use Rattle.state_model.specs.Places.{AnItem, ACollection, is_collection, wanted_by, wanted_of, field_wants, item_wants, tag_of, home_tag, instance_class, holds_instances, is_array, is_filtered, collection_of, empty_collection, same_home, same_kind, row_home, row_class}
+use Rattle.state_model.specs.declared.place.Wanted.TheVariants.{Item as AnItem, Collection as ACollection}
+use Rattle.state_model.specs.Places.{is_collection, wanted_by, wanted_of, field_wants, item_wants, tag_of, home_tag, instance_class, holds_instances, is_array, is_filtered, collection_of, empty_collection, same_home, same_kind, row_home, row_class}
 use Rattle.state_model.proofs.Examples as ex
 use Rattle.state_model.proofs.Zoo as z
 

@@ -8,7 +8,8 @@ use Rattle.state_model.specs.declared.row.Row.{Row}
 use Rattle.state_model.specs.declared.row.Row.TheVariants.{Struct, Map, Array, Set}
 use Rattle.state_model.specs.declared.row.RowEntry.{RowEntry}
 use Rattle.state_model.specs.Rows.{put_row, root_alone}
-use Rattle.state_model.specs.Places.{Wanted, AnItem, ACollection}
+use Rattle.state_model.specs.declared.place.Wanted.{Wanted}
+use Rattle.state_model.specs.declared.place.Wanted.TheVariants.{Item as AnItem, Collection as ACollection}
 use Rattle.state_model.specs.Sound.{rise, differ, keys_differ, is_instance_of, is_collection_of, is_of_type, is_out_of_range, fits_wanted, fits_place, has_kind, places_fit, set_differs, has_root, are_rows_of, are_sound, Sound}
 use Rattle.state_model.proofs.Examples as ex
 use Rattle.state_model.proofs.Zoo as z

@@ -19,7 +19,8 @@ use Rattle.state_model.specs.declared.command.TableFault.{TableFault}
 use Rattle.state_model.specs.declared.command.TableFault.TheVariants as fault
 use Rattle.state_model.specs.Values.{same_value, held_by}
 use Rattle.state_model.specs.Rows.{row_at, is_live, put_row, place_count, text_bytes_of}
-use Rattle.state_model.specs.Places.{Wanted, field_wants, item_wants, is_filtered, empty_collection, row_home}
+use Rattle.state_model.specs.declared.place.Wanted.{Wanted}
+use Rattle.state_model.specs.Places.{field_wants, item_wants, is_filtered, empty_collection, row_home}
 use Rattle.state_model.specs.Reached.{makes_cycle}
 use Rattle.state_model.specs.Sound.{is_of_type, is_out_of_range}
 use Rattle.state_model.specs.State.{State, ItemCount, next_item, rows_limit, places_limit, text_limit, one_text_limit, last_number}

@@ -8,13 +8,10 @@ use Rattle.schema_model.specs.declared.class.Item.TheVariants as item
 use Rattle.schema_model.specs.declared.class.Shape.{Shape}
 use Rattle.schema_model.specs.declared.class.Shape.TheVariants as shape
 use Rattle.schema_model.specs.declared.place.Home.{Home}
+use Rattle.state_model.specs.declared.place.Wanted.{Wanted}
+use Rattle.state_model.specs.declared.place.Wanted.TheVariants.{Item as AnItem, Collection as ACollection}
 use Rattle.state_model.specs.declared.row.Row.{Row}
 use Rattle.state_model.specs.declared.row.Row.TheVariants.{Struct, Map, Array, Set}
-
--- what a place is declared to hold: an item, or a collection of a home
-pub data Wanted : Type 0 where
-  AnItem : (wanted : Item) → Wanted
-  ACollection : (home : Home) → Wanted
 
 -- a shape is that of a collection
 abbrev pub is_collection : Shape → Bool

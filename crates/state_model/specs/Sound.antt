@@ -17,7 +17,9 @@ use Rattle.state_model.specs.declared.row.MapItem.{MapItem}
 use Rattle.state_model.specs.declared.row.SetItem.{SetItem}
 use Rattle.state_model.specs.Values.{same_value}
 use Rattle.state_model.specs.Rows.{row_at, number_of}
-use Rattle.state_model.specs.Places.{Wanted, AnItem, ACollection, field_wants, item_wants, is_filtered, empty_collection, same_kind, same_home, row_home, row_class}
+use Rattle.state_model.specs.declared.place.Wanted.{Wanted}
+use Rattle.state_model.specs.declared.place.Wanted.TheVariants.{Item as AnItem, Collection as ACollection}
+use Rattle.state_model.specs.Places.{field_wants, item_wants, is_filtered, empty_collection, same_kind, same_home, row_home, row_class}
 
 -- the numbers rise strictly
 abbrev pub rise : List ℕ → Bool

@@ -2,6 +2,7 @@
 #![tactic(auto)]
 
 pub mod command;
+pub mod place;
 pub mod row;
 pub mod rows;
 #[cfg(test)]
@@ -9,6 +10,7 @@ mod tests;
 pub mod value;
 
 pub use command::{Command, TableFault};
+pub use place::{Wanted, field_wants, is_filtered, item_wants};
 pub use row::{
     FieldValue, FieldValues, MapItem, MapItems, Row, RowEntry, SetItem, SetItems, Values,
     copy_field_values, copy_map_items, copy_set_items, copy_values,

@@ -9,7 +9,7 @@ use Rattle.schema_model.specs.declared.place.Home.{Home}
 use Rattle.state_model.specs.declared.row.Row.{Row}
 use Rattle.state_model.specs.declared.row.Row.TheVariants.{Struct, Map, Array, Set}
 use Rattle.state_model.specs.declared.row.RowEntry.{RowEntry}
-use Rattle.state_model.specs.Places.{Wanted}
+use Rattle.state_model.specs.declared.place.Wanted.{Wanted}
 use Rattle.wire_model.specs.declared.op.OpKey.{OpKey}
 use Rattle.wire_model.specs.Edits.{Carried, Edit, Add, Replace, DeleteAdd, Delete, Clear, DeleteByRef}
 use Rattle.wire_model.specs.Effect.{Body, opened, closed, closed_slots, effect, edited_row, drop_link}

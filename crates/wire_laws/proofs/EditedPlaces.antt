@@ -18,7 +18,8 @@ use Rattle.state_model.specs.declared.row.FieldValue.{FieldValue}
 use Rattle.state_model.specs.declared.row.MapItem.{MapItem}
 use Rattle.state_model.specs.declared.row.SetItem.{SetItem}
 use Rattle.state_model.specs.Rows.{emptied}
-use Rattle.state_model.specs.Places.{Wanted, field_wants, item_wants, is_filtered, same_kind}
+use Rattle.state_model.specs.declared.place.Wanted.{Wanted}
+use Rattle.state_model.specs.Places.{field_wants, item_wants, is_filtered, same_kind}
 use Rattle.wire_model.specs.declared.op.OpKey.TheVariants.{Field, Item, Named}
 use Rattle.wire_model.specs.Edits.{Edit, Add, Replace, DeleteAdd, Delete, Clear, AddByRef, DeleteByRef, carried_value}
 use Rattle.wire_model.specs.Effect.{Body, Fields, Items, Slots, Elements, closed, closed_slots, effect, edited_row, put_named, put_value, without_key, push_link, has_link, put_slot, add_slot, is_present_at}

@@ -18,7 +18,8 @@ use Rattle.state_model.specs.declared.row.MapItem.{MapItem}
 use Rattle.state_model.specs.declared.row.SetItem.{SetItem}
 use Rattle.state_model.specs.Values.{is_link}
 use Rattle.state_model.specs.Rows.{row_at}
-use Rattle.state_model.specs.Places.{AnItem, is_filtered, holds_instances, item_wants, instance_class}
+use Rattle.state_model.specs.declared.place.Wanted.TheVariants.{Item as AnItem}
+use Rattle.state_model.specs.Places.{is_filtered, holds_instances, item_wants, instance_class}
 use Rattle.state_model.specs.Sound.{differ, places_fit, fits_place, fits_wanted, are_rows_of}
 use Rattle.state_laws.proofs.Tests.{list_all_wider}
 use Rattle.state_laws.proofs.FittingRows.{rises_where}

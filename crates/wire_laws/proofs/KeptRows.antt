@@ -16,7 +16,8 @@ use Rattle.state_model.specs.declared.row.SetItem.{SetItem}
 use Rattle.state_model.specs.Values.{same_value, held_by}
 use Rattle.state_model.specs.Rows.{number_of, row_at, is_live, emptied}
 use Rattle.state_model.specs.Reached.{is_among}
-use Rattle.state_model.specs.Places.{Wanted, field_wants, item_wants, is_filtered, row_home}
+use Rattle.state_model.specs.declared.place.Wanted.{Wanted}
+use Rattle.state_model.specs.Places.{field_wants, item_wants, is_filtered, row_home}
 use Rattle.state_model.specs.Sound.{rise, differ, keys_differ, has_kind, has_root, places_fit, fits_place, are_rows_of}
 use Rattle.state_laws.proofs.Passing.{list_any-flat_map}
 use Rattle.state_laws.proofs.Numbers.{entry, at_live, live_at, found_row}

@@ -15,7 +15,8 @@ use Rattle.state_model.specs.declared.row.Row.TheVariants.{Struct, Map, Array, S
 use Rattle.state_model.specs.declared.row.RowEntry.{RowEntry}
 use Rattle.state_model.specs.Values.{same_value}
 use Rattle.state_model.specs.Rows.{number_of, row_at, is_live, put_row, emptied}
-use Rattle.state_model.specs.Places.{Wanted, field_wants, item_wants, is_filtered}
+use Rattle.state_model.specs.declared.place.Wanted.{Wanted}
+use Rattle.state_model.specs.Places.{field_wants, item_wants, is_filtered}
 use Rattle.state_model.specs.Reached.{is_among}
 use Rattle.wire_model.specs.declared.op.OpKey.{OpKey}
 use Rattle.wire_model.specs.declared.op.OpKey.TheVariants.{Field, Item, Named}

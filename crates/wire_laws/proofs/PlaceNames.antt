@@ -9,7 +9,7 @@ use Rattle.schema_model.specs.declared.value.Value.{Value}
 use Rattle.schema_model.specs.declared.value.Value.TheVariants.{Whole, Str, Truth, Link}
 use Rattle.state_model.specs.declared.row.RowEntry.{RowEntry}
 use Rattle.state_model.specs.Values.{held_by, same_value}
-use Rattle.state_model.specs.Places.{Wanted}
+use Rattle.state_model.specs.declared.place.Wanted.{Wanted}
 use Rattle.state_model.specs.Reached.{is_among, with_number, with_numbers}
 use Rattle.wire_model.specs.declared.op.OpKey.{OpKey}
 use Rattle.wire_model.specs.Edits.{Edit, Add, Carried}

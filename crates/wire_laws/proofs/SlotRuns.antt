@@ -11,7 +11,8 @@ use Rattle.schema_model.specs.declared.place.Home.{Home}
 use Rattle.state_model.specs.declared.row.RowEntry.{RowEntry}
 use Rattle.state_model.specs.declared.row.Row.TheVariants.{Array}
 use Rattle.state_model.specs.Values.{same_value, is_link}
-use Rattle.state_model.specs.Places.{Wanted, item_wants}
+use Rattle.state_model.specs.declared.place.Wanted.{Wanted}
+use Rattle.state_model.specs.Places.{item_wants}
 use Rattle.wire_model.specs.declared.op.OpKey.TheVariants.{Item}
 use Rattle.wire_model.specs.Edits.{Edit}
 use Rattle.wire_model.specs.Effect.{Body, Slots, effect, closed, closed_slots, put_slot, add_slot, empty_slot}

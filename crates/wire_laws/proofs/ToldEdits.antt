@@ -16,7 +16,8 @@ use Rattle.state_model.specs.declared.row.MapItem.{MapItem}
 use Rattle.state_model.specs.declared.row.SetItem.{SetItem}
 use Rattle.state_model.specs.Values.{same_value, is_link}
 use Rattle.state_model.specs.Rows.{emptied}
-use Rattle.state_model.specs.Places.{Wanted, field_wants, item_wants, is_filtered}
+use Rattle.state_model.specs.declared.place.Wanted.{Wanted}
+use Rattle.state_model.specs.Places.{field_wants, item_wants, is_filtered}
 use Rattle.state_model.specs.Sound.{are_rows_of, rise, differ, keys_differ, fits_place, places_fit}
 use Rattle.std.proofs.lemmas.Bool.{and_parts}
 use Rattle.state_laws.proofs.Tests.{all-found, list_all_filtered}

@@ -15,7 +15,9 @@ use Rattle.state_model.specs.declared.row.Row.TheVariants.{Struct, Map, Array, S
 use Rattle.state_model.specs.declared.row.RowEntry.{RowEntry}
 use Rattle.state_model.specs.Values.{is_link}
 use Rattle.state_model.specs.Rows.{row_at, is_live, emptied}
-use Rattle.state_model.specs.Places.{Wanted, AnItem, ACollection, collection_of, empty_collection, same_kind, same_home, row_class, row_home}
+use Rattle.state_model.specs.declared.place.Wanted.{Wanted}
+use Rattle.state_model.specs.declared.place.Wanted.TheVariants.{Item as AnItem, Collection as ACollection}
+use Rattle.state_model.specs.Places.{collection_of, empty_collection, same_kind, same_home, row_class, row_home}
 use Rattle.state_model.specs.Sound.{are_rows_of, has_kind, fits_place, is_collection_of, is_instance_of}
 use Rattle.state_laws.proofs.Numbers.{at_live}
 use Rattle.state_laws.proofs.Fitting.{fits_no_link, fits_live}

@@ -8,7 +8,7 @@ use Rattle.schema_model.specs.declared.value.Value.{Value}
 use Rattle.schema_model.specs.declared.value.Value.TheVariants.{Whole, Str, Truth, Link}
 use Rattle.state_model.specs.declared.row.RowEntry.{RowEntry}
 use Rattle.state_model.specs.Values.{same_whole, same_truth, same_value}
-use Rattle.state_model.specs.Places.{Wanted}
+use Rattle.state_model.specs.declared.place.Wanted.{Wanted}
 use Rattle.wire_model.specs.Edits.{carried_value}
 use Rattle.wire_model.specs.Patch.{carried, same_values}
 

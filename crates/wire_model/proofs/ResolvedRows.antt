@@ -6,7 +6,7 @@ use Rattle.schema_model.specs.declared.class.Item.TheVariants as item
 use Rattle.state_model.specs.declared.row.Row.TheVariants as row
 use Rattle.state_model.specs.declared.row.RowEntry.{RowEntry}
 use Rattle.state_model.specs.Rows.{kinds_of}
-use Rattle.state_model.specs.Places.{AnItem, ACollection}
+use Rattle.state_model.specs.declared.place.Wanted.TheVariants.{Item as AnItem, Collection as ACollection}
 use Rattle.state_model.proofs.Examples as ex
 use Rattle.state_model.proofs.Zoo as z
 use Rattle.wire_model.specs.declared.op.OpKey.TheVariants.{Field, Item, Named}

@@ -16,7 +16,9 @@ use Rattle.state_model.specs.declared.row.Row.{Row}
 use Rattle.state_model.specs.declared.row.Row.TheVariants as row
 use Rattle.state_model.specs.declared.row.RowEntry.{RowEntry}
 use Rattle.state_model.specs.Rows.{row_at, kinds_of, put_row}
-use Rattle.state_model.specs.Places.{Wanted, AnItem, ACollection, field_wants, item_wants, empty_collection, holds_instances, row_class, row_home}
+use Rattle.state_model.specs.declared.place.Wanted.{Wanted}
+use Rattle.state_model.specs.declared.place.Wanted.TheVariants.{Item as AnItem, Collection as ACollection}
+use Rattle.state_model.specs.Places.{field_wants, item_wants, empty_collection, holds_instances, row_class, row_home}
 use Rattle.state_model.specs.Reached.{times}
 use Rattle.state_model.specs.Sound.{is_instance_of, is_collection_of}
 use Rattle.wire_model.specs.declared.op.OpKey.{OpKey}

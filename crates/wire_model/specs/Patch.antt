@@ -18,7 +18,9 @@ use Rattle.state_model.specs.declared.row.MapItem.{MapItem}
 use Rattle.state_model.specs.declared.row.SetItem.{SetItem}
 use Rattle.state_model.specs.Values.{same_value, is_link}
 use Rattle.state_model.specs.Rows.{row_at, emptied, numbers_of}
-use Rattle.state_model.specs.Places.{Wanted, AnItem, field_wants, item_wants, is_filtered}
+use Rattle.state_model.specs.declared.place.Wanted.{Wanted}
+use Rattle.state_model.specs.declared.place.Wanted.TheVariants.{Item as AnItem}
+use Rattle.state_model.specs.Places.{field_wants, item_wants, is_filtered}
 use Rattle.state_model.specs.Reached.{is_among, with_numbers}
 use Rattle.wire_model.specs.declared.op.OpKey.{OpKey}
 use Rattle.wire_model.specs.declared.op.OpKey.TheVariants.{Field, Item, Named}

@@ -12,7 +12,7 @@ use Rattle.state_model.specs.declared.row.MapItem.{MapItem}
 use Rattle.state_model.specs.declared.row.SetItem.{SetItem}
 use Rattle.state_model.specs.declared.row.Row.TheVariants as row
 use Rattle.state_model.specs.Rows.{row_at}
-use Rattle.state_model.specs.Places.{Wanted}
+use Rattle.state_model.specs.declared.place.Wanted.{Wanted}
 use Rattle.wire_model.specs.declared.op.OpKey.{OpKey}
 use Rattle.wire_model.specs.declared.op.OpKey.TheVariants.{Field, Item, Named}
 use Rattle.wire_model.specs.declared.op.OpValue.{OpValue}

@@ -1,35 +1,30 @@
 -- The blocks of a patch between two rows of numbers, and a state frame whose client sees what is shared.
-use Rattle.std.proofs.Common.{◌≡◌, ℕ, zero, suc, ◌+◌, ◌<◌, ◌≤◌, Bool, true, false, cond, not, ◌&&◌, ◌||◌, List, [], ◌∷◌, ◌++◌, length, map, ◌⊎◌, inl, inr, Option, Some, None, refl, sym, ap, ◌∙◌, subst, arith, append-nil}
-use Rattle.std.specs.Prelude.{nat_lt, ◌==◌, is_some, ℤ, pos, negsuc}
-use Rattle.std.specs.List.{list_all, list_any, flat_map, range_with_len, fold}
+use Rattle.std.proofs.Common.{◌≡◌, ℕ, suc, ◌≤◌, Bool, true, false, cond, not, ◌||◌, List, [], ◌∷◌, ◌++◌, map, inl, inr, Option, Some, None, refl, sym, ap, ◌∙◌, arith, append-nil}
+use Rattle.std.specs.Prelude.{◌==◌, is_some, pos, negsuc}
+use Rattle.std.specs.List.{flat_map, fold}
 use Rattle.std.specs.Option.{option_map, option_map_or}
-use Rattle.std.proofs.lemmas.Bool.{and_parts, cases_Bool, cases_eq, ltb-true, eqb-true, eq-eqb, ne_eqb}
-use Rattle.std.proofs.lemmas.Bool.Decides.{nat_tests}
-use Rattle.lists.specs.Rising.{RisesFrom, IsAbove, find, put, remove}
-use Rattle.lists.proofs.RisingLaws.{RisesFrom-put, RisesFrom-remove, find-put, find-remove, find_below, same_rising}
+use Rattle.std.proofs.lemmas.Bool.{cases_Bool, eqb-true, eq-eqb, ne_eqb}
+use Rattle.lists.specs.Rising.{RisesFrom, find, remove}
+use Rattle.lists.proofs.RisingLaws.{RisesFrom-put, RisesFrom-remove, find-put, find-remove, same_rising}
 use Rattle.schema_model.specs.Classes.{Schema}
-use Rattle.schema_model.specs.declared.class.Item.TheVariants as item
-use Rattle.schema_model.specs.declared.scalar.ScalarKind.TheVariants as kind
 use Rattle.schema_model.specs.declared.value.Value.{Value}
 use Rattle.schema_model.specs.declared.value.Value.TheVariants as value
-use Rattle.state_model.specs.declared.row.Row.TheVariants.{Struct}
 use Rattle.state_model.specs.declared.row.RowEntry.{RowEntry}
 use Rattle.state_model.specs.declared.row.FieldValue.{FieldValue}
-use Rattle.state_model.specs.Values.{same_value, same_whole, same_truth}
-use Rattle.state_model.specs.Places.{Wanted, AnItem, field_wants}
+use Rattle.state_model.specs.Values.{same_value, same_truth}
+use Rattle.state_model.specs.declared.place.Wanted.{Wanted}
+use Rattle.state_model.specs.Places.{field_wants}
 use Rattle.wire_model.specs.declared.op.Op.{Op}
 use Rattle.wire_model.specs.declared.op.OpKey.TheVariants.{Field}
-use Rattle.wire_model.specs.declared.op.Block.{Block}
 use Rattle.state_model.specs.Rows.{row_at}
 use Rattle.wire_model.specs.Edits.{Edit, EditBlock, Carried, Plain, Linked, told, told_blocks}
 use Rattle.wire_model.specs.Effect.{Body, Fields, effect, apply_edits, put_field, with_named, with_linked, with_edits, carried_by, closed}
 use Rattle.wire_model.specs.Patch.{place_edit, changed_place, carried, field_value, field_edits, either_number, block_of, named_in, linked_number, named_by_blocks, patch_edits, new_blocks}
 use Rattle.wire_model.specs.Frame.{patch, view_part, shared_part, state_frame, has_operation, is_blank}
 use Rattle.wire_model.specs.OpBytes.{block_bytes}
-use Rattle.plain_rows.specs.Numbers.{is_number_schema, is_number_at, is_number, number_rows, number_count, AreNumbers, field_index}
-use Rattle.plain_rows.proofs.NumberCommands.{wanted_of_number}
-use Rattle.room_core.specs.NumberPatch.{number_op, number_ops, root_block}
-use Rattle.room_core.proofs.NumberPatches.{told_field_edits, IsNumberValue, number_found, rises_either, rises_numbers, find_either, find_numbers}
+use Rattle.plain_rows.specs.Numbers.{is_number_schema, is_number, number_rows, number_count, AreNumbers, field_index}
+use Rattle.number_laws.specs.NumberPatch.{number_ops, root_block}
+use Rattle.number_laws.proofs.NumberPatches.{told_field_edits, IsNumberValue, number_found, rises_either, rises_numbers, find_either, find_numbers}
 use Rattle.std.proofs.lemmas.List.Concat.{flat_map-append}
 use Rattle.std.proofs.lemmas.List.Sums.{fold-append}
 
@@ -61,7 +56,7 @@ names_nothing : (f : ℕ → List Edit) (ks : List ℕ) → ((i : ℕ) → named
 names_nothing f [] h = refl
 names_nothing f (k ∷ ks) h = named_in-append (f k) (flat_map f ks) ∙ rw (h k) (names_nothing f ks h)
 
-named_in_patch : (s : Schema) (old new : List FieldValue) → AreNumbers (number_count s) new → named_in (field_edits s (number_rows new) 0 old new) ≡ []
+pub named_in_patch : (s : Schema) (old new : List FieldValue) → AreNumbers (number_count s) new → named_in (field_edits s (number_rows new) 0 old new) ≡ []
 named_in_patch s old new b =
     names_nothing (λ i. place_edit (Field i) (Field i) (number_rows new) (field_wants s 0 i) (field_value old i) (field_value new i)) (either_number (map (λ (f : FieldValue). f.field) old) (map (λ (f : FieldValue). f.field) new))
     (λ i. named_nothing (number_rows new) (field_wants s 0 i) i (field_value old i) (field_value new i) (number_found (number_count s) i new b.each))
@@ -288,7 +283,7 @@ first_names_nothing None ns rows h = (refl, h)
 first_names_nothing (Some (Plain k s)) ns rows h = (refl, h)
 first_names_nothing (Some (Linked n empty)) ns rows h = cc
 
-no_links : (es : List Edit) (rows : List RowEntry) → named_in es ≡ [] → with_named es rows ≡ rows
+pub no_links : (es : List Edit) (rows : List RowEntry) → named_in es ≡ [] → with_named es rows ≡ rows
 no_links [] rows e = refl
 no_links (e ∷ es) rows h =
     let first = first_names_nothing (carried_by e) (named_in es) rows h in

@@ -1,10 +1,7 @@
 -- The patch between rows of numbers by their fields, the frame that it makes, and that it has bytes.
-use Rattle.std.proofs.Common.{◌≡◌, ℕ, zero, suc, ◌+◌, Bool, true, false, cond, List, [], ◌∷◌, ◌++◌, Option, Some, None, refl, sym, ap, ◌∙◌, subst, arith, append-nil, append_assoc}
-use Rattle.std.specs.Prelude.{◌==◌, ℤ}
+use Rattle.std.proofs.Common.{◌≡◌, ℕ, zero, suc, ◌+◌, Bool, true, false, cond, List, [], ◌∷◌, Option, Some, None, refl, sym, ap, ◌∙◌, subst, arith}
+use Rattle.std.specs.Prelude.{◌==◌}
 use Rattle.std.specs.List.{list_all, flat_map, range_with_len}
-use Rattle.std.proofs.lemmas.Bool.{and_parts}
-use Rattle.std.proofs.lemmas.List.Concat.{flat_map-append}
-use Rattle.lists.specs.Rising.{find}
 use Rattle.schema_model.specs.Classes.{Schema}
 use Rattle.schema_model.specs.declared.value.Value.{Value}
 use Rattle.schema_model.specs.declared.value.Value.TheVariants.{Whole, Str, Truth, Link}
@@ -14,8 +11,8 @@ use Rattle.state_model.specs.declared.row.Row.{Row}
 use Rattle.state_model.specs.declared.row.Row.TheVariants.{Struct}
 use Rattle.wire_model.specs.Patch.{field_value}
 use Rattle.wire_model.specs.Frame.{patch}
-use Rattle.plain_rows.specs.Numbers.{is_number_schema, is_number_at, is_number, field_index, AreNumberRows, number_rows, number_count, AreNumbers}
-use Rattle.room_core.specs.NumberPatch.{number_op, number_ops, root_block}
+use Rattle.plain_rows.specs.Numbers.{is_number_schema, AreNumberRows, number_rows, number_count, AreNumbers}
+use Rattle.number_laws.specs.NumberPatch.{number_op, number_ops, root_block}
 use Rattle.std.specs.Prelude.{length, not, ◌<◌, ◌≤◌}
 use Rattle.std.proofs.lemmas.Bool.{and_from, lt-ltb}
 use Rattle.std.proofs.lemmas.List.Folds.{list_all-append}
@@ -25,8 +22,8 @@ use Rattle.wire_model.specs.OpBytes.{block_bytes}
 use Rattle.wire_model.specs.Frame.{state_frame, has_operation}
 use Rattle.wire_ops.specs.NumberBlocks.{is_number_op, are_number_blocks}
 use Rattle.plain_rows.proofs.NumberCommands.{count_small}
-use Rattle.room_core.proofs.NumberPatches.{IsNumberValue, number_found}
-use Rattle.room_core.proofs.NumberFrames.{patch_numbers, state_frame_numbers, has_operation_numbers, is_no_op}
+use Rattle.number_laws.proofs.NumberPatches.{IsNumberValue, number_found}
+use Rattle.number_laws.proofs.NumberFrames.{patch_numbers, state_frame_numbers, has_operation_numbers, is_no_op}
 
 abbrev fields_in : Row → List FieldValue
 fields_in (Struct class fields) = fields

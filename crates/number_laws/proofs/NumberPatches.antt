@@ -1,35 +1,33 @@
 -- The patch between two rows of numbers goes field by field, and leads from the one to the other.
-use Rattle.std.proofs.Common.{◌≡◌, ℕ, zero, suc, ◌+◌, ◌<◌, ◌≤◌, Bool, true, false, cond, not, ◌&&◌, ◌||◌, List, [], ◌∷◌, ◌++◌, length, map, ◌⊎◌, inl, inr, Option, Some, None, refl, sym, ap, ◌∙◌, subst, arith, append-nil}
+use Rattle.std.proofs.Common.{◌≡◌, ℕ, zero, suc, ◌+◌, ◌<◌, ◌≤◌, Bool, true, false, cond, List, [], ◌∷◌, ◌++◌, map, inl, inr, Option, Some, None, refl, ap, ◌∙◌, subst, arith}
 use Rattle.std.proofs.lemmas.List.{map-append}
-use Rattle.std.specs.Prelude.{nat_lt, ◌==◌, is_some}
-use Rattle.std.specs.List.{list_all, list_any, flat_map, range_with_len, fold}
-use Rattle.std.specs.Option.{option_map, option_map_or}
-use Rattle.std.proofs.lemmas.Bool.{and_parts, cases_Bool, cases_eq, ltb-true, eqb-true}
+use Rattle.std.specs.Prelude.{◌==◌}
+use Rattle.std.specs.List.{list_all, flat_map, range_with_len}
+use Rattle.std.specs.Option.{option_map}
+use Rattle.std.proofs.lemmas.Bool.{and_parts, cases_eq, ltb-true}
 use Rattle.std.proofs.lemmas.Bool.Decides.{nat_tests}
-use Rattle.lists.specs.Rising.{RisesFrom, IsAbove, find, put, remove}
-use Rattle.lists.proofs.RisingLaws.{RisesFrom-put, RisesFrom-remove, IsAbove-put, find-put, find-remove, find_below, same_rising, RisesFrom-lower, IsAbove-higher}
+use Rattle.lists.specs.Rising.{RisesFrom, IsAbove, find, put}
+use Rattle.lists.proofs.RisingLaws.{RisesFrom-put, IsAbove-put, find-put, find_below, RisesFrom-lower, IsAbove-higher}
 use Rattle.schema_model.specs.Classes.{Schema}
 use Rattle.schema_model.specs.declared.class.Item.TheVariants as item
 use Rattle.schema_model.specs.declared.scalar.ScalarKind.TheVariants as kind
 use Rattle.schema_model.specs.declared.value.Value.{Value}
 use Rattle.schema_model.specs.declared.value.Value.TheVariants as value
-use Rattle.state_model.specs.declared.row.Row.TheVariants.{Struct}
 use Rattle.state_model.specs.declared.row.RowEntry.{RowEntry}
 use Rattle.state_model.specs.declared.row.FieldValue.{FieldValue}
-use Rattle.state_model.specs.Values.{same_value, same_whole}
+use Rattle.state_model.specs.Values.{same_value}
 use Rattle.state_model.specs.Reached.{with_numbers, with_number}
-use Rattle.state_model.specs.Places.{Wanted, AnItem, field_wants}
+use Rattle.state_model.specs.declared.place.Wanted.TheVariants.{Item as AnItem}
+use Rattle.state_model.specs.Places.{field_wants}
 use Rattle.wire_model.specs.declared.op.Op.{Op}
 use Rattle.wire_model.specs.declared.op.OpKey.TheVariants.{Field}
-use Rattle.wire_model.specs.declared.op.Block.{Block}
-use Rattle.wire_model.specs.Edits.{Edit, EditBlock, told, told_blocks}
+use Rattle.wire_model.specs.Edits.{told}
 use Rattle.wire_model.specs.declared.op.Op.TheVariants as op
 use Rattle.wire_model.specs.declared.op.OpValue.TheVariants as opvalue
-use Rattle.wire_model.specs.Patch.{place_edit, changed_place, carried, field_value, field_edits, either_number, block_of, named_in, patch_edits}
-use Rattle.wire_model.specs.Frame.{patch}
+use Rattle.wire_model.specs.Patch.{place_edit, changed_place, carried, field_value, field_edits, either_number}
 use Rattle.plain_rows.specs.Numbers.{is_number_schema, is_number_at, is_number, number_rows, number_count, AreNumbers, field_index}
 use Rattle.plain_rows.proofs.NumberCommands.{wanted_of_number}
-use Rattle.room_core.specs.NumberPatch.{number_op, number_ops, root_block}
+use Rattle.number_laws.specs.NumberPatch.{number_op, number_ops}
 
 -- ---- over rising numbers, or over all below a count
 

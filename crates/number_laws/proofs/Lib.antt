@@ -1,0 +1,4 @@
+pub mod NumberPatches
+pub mod NumberFrames
+pub mod NumberOps
+pub mod NumbersRead
