@@ -1,5 +1,5 @@
 -- Frames by their bytes, worked out by hand from the formats.
-use Rattle.std.specs.Prelude.{◌≡◌, ℕ, List, [], ◌∷◌, pos, negsuc, codes, refl}
+use Rattle.std.specs.Prelude.{◌≡◌, [], ◌∷◌, pos, negsuc, codes, refl}
 use Rattle.frame_model.specs.Frames.{server_bytes, client_bytes}
 use Rattle.frame_model.specs.declared.frame.MsgKind.TheVariants.{Name, Num}
 use Rattle.frame_model.specs.declared.frame.ServerFrame.TheVariants as server

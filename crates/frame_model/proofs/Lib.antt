@@ -1,1 +1,4 @@
+pub mod ClientRows
 pub mod FrameBytesRows
+pub mod Opened
+pub mod PackRows

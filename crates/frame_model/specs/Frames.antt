@@ -1,5 +1,5 @@
 -- The bytes of frames. After Colyseus 0.16: the first byte is the code of the frame.
-use Rattle.std.specs.Prelude.{ℕ, List, [], ◌∷◌, ◌++◌, length, ℤ, codes}
+use Rattle.std.specs.Prelude.{ℕ, List, [], ◌∷◌, ◌++◌, length, codes}
 use Rattle.schema_model.specs.Spelling.{number_bytes, text_bytes}
 use Rattle.frame_model.specs.declared.frame.MsgKind.{MsgKind}
 use Rattle.frame_model.specs.declared.frame.MsgKind.TheVariants.{Name, Num}

@@ -1,6 +1,8 @@
-//! The messages of the client protocol: what a server and a client send each other, and its bytes.
+//! The messages of the client protocol: what a server and a client send each other, its bytes, and how they are read.
 #![tactic(auto)]
 
+pub mod fault;
 pub mod frame;
 
+pub use fault::{FrameFault, PackFault};
 pub use frame::{ClientFrame, MsgKind, ServerFrame};

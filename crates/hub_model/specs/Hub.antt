@@ -1,17 +1,15 @@
 -- A hub's value and its step, for the events by which one client creates a room, opens its seat and sees ticks; and a run.
 -- After Colyseus 0.16.
-use Rattle.std.specs.Prelude.{ℕ, ◌+◌, ◌-◌, ◌^◌, max, min, Bool, true, false, not, ◌&&◌, List, [], ◌∷◌, ◌++◌, map, filter, Option, Some, None, option_and_then, if◌then◌else◌, ◌==◌}
+use Rattle.std.specs.Prelude.{ℕ, ◌+◌, ◌-◌, ◌^◌, max, min, ◌&&◌, List, [], ◌∷◌, ◌++◌, map, Option, Some, None, if◌then◌else◌, ◌==◌}
 use Rattle.std.specs.List.{flat_map, find}
 use Rattle.std.specs.Option.{option_map, option_map_or}
 use Rattle.std.specs.Str.{bytes_eq}
 use Rattle.schema_model.specs.Classes.{Schema}
 use Rattle.room_model.specs.declared.definition.RoomDef.{RoomDef}
-use Rattle.room_model.specs.declared.event.Act.{Act}
 use Rattle.room_model.specs.declared.event.RoomEvent.{RoomEvent}
 use Rattle.room_model.specs.declared.event.RoomEvent.TheVariants as event
 use Rattle.room_model.specs.declared.event.RoomOut.{RoomOut}
 use Rattle.room_model.specs.declared.event.RoomOut.TheVariants as room_out
-use Rattle.room_model.specs.declared.refusal.Refusal.TheVariants as refusal
 use Rattle.room_model.specs.Seats.{in_use, Reservation}
 use Rattle.room_model.specs.Room.{RoomValue, new_room, after_reserve, room_step}
 use Rattle.hub_model.specs.declared.event.HubEvent.{HubEvent}

@@ -1,5 +1,5 @@
 -- The texts of replies and targets. After Colyseus 0.16.
-use Rattle.std.specs.Prelude.{ℕ, List, [], ◌∷◌, ◌++◌, codes}
+use Rattle.std.specs.Prelude.{ℕ, List, ◌++◌, codes}
 use Rattle.std.specs.Fmt.{decimal}
 
 -- the reply to a request that got a seat, as a compact JSON text
