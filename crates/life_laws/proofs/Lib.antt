@@ -1,0 +1,5 @@
+pub mod Points
+pub mod RunSteps
+pub mod GoodSteps
+pub mod Kept
+pub mod LedgerPlaces

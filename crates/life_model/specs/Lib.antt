@@ -1,0 +1,4 @@
+pub mod Entries
+pub mod Sent
+pub mod Lives
+pub mod Promises
