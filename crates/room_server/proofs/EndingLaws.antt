@@ -10,6 +10,7 @@ use Rattle.text_model.specs.declared.path.PathWord.{PathWord}
 use Rattle.text_model.specs.Paths.{Path, IsTextOf, printed}
 use Rattle.text_model.specs.Readings.{read_path}
 use Rattle.text_model.proofs.PathLaw.{text_is_read, read_is_text}
+use Rattle.room_server.proofs.PathPromises.{path_keeps}
 use Rattle.room_server.specs.declared.ending.Ending.{Ending}
 use Rattle.room_server.specs.declared.ending.Ending.TheVariants.{Done, Usage, Refused, ReadFailed, WriteFailed, Memory}
 use Rattle.room_server.specs.declared.output.WriteFault.{WriteFault}
@@ -93,6 +94,7 @@ replayed_text l0 l1 t0 t1 text read ends (inl h) =
       short = (let P : List ℕ → Type 0 = λ t. length t ≤ 2 ^ 24 in subst P parts.1.1 h.1);
       read = (let P : List ℕ → Type 0 = λ t. ReadsAll l0 l1 t in subst P parts.1.1 all);
       took = (let P : FirstPath → Type 0 = λ p. Takes t0 t1 (printed p) in subst P parts.2 took);
+      promises = path_keeps parts.0 parts.1.0;
     }
 replayed_text l0 l1 t0 t1 text read ends (inr h) = absurd (let e : Done ≡ Refused = ends.0 ∙ ap (λ (a : Answer). a.ending) h.2 in cc)
 

@@ -1,3 +1,4 @@
 pub mod WriteLaws
 pub mod PlayLaws
 pub mod EndingLaws
+pub mod PathPromises

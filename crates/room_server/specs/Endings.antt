@@ -7,6 +7,7 @@ use Rattle.room_server.specs.declared.ending.Ending.{Ending}
 use Rattle.room_server.specs.declared.ending.Ending.TheVariants.{Done, Usage, Refused, ReadFailed, WriteFailed, Memory}
 use Rattle.room_server.specs.declared.output.WriteFault.{WriteFault}
 use Rattle.room_server.specs.declared.output.WriteFault.TheVariants as fault
+use Rattle.room_server.specs.Promised.{KeepsPromises}
 use Rattle.room_server.specs.Answers.{Answer, answer_to, refusal, usage}
 use Rattle.room_server.specs.declared.task.Task.{Task}
 
@@ -64,13 +65,15 @@ IsEnded (Some task) left0 left1 taken0 taken1 e = Replays left0 left1 taken0 tak
 
 -- ---- what the statuses say
 
--- the source was read to its end, its bytes are the text of a schedule, and the sink took exactly what is printed of it
+-- the source was read to its end, its bytes are the text of a schedule, the sink took exactly what is printed of it,
+-- and the three promises hold of its events
 pub record IsReplayed (left0 left1 taken0 taken1 : Option (List ℕ)) : Type 0 where
   pub parts : Path
   pub fit : is_path parts ≡ true
   pub short : length (text_of parts) ≤ 2 ^ 24
   pub read : ReadsAll left0 left1 (text_of parts)
   pub took : Takes taken0 taken1 (printed (first_path parts))
+  pub promises : KeepsPromises (first_path parts)
 
 -- a text was read, and the sink took exactly the line of its first fault
 pub record IsRefused (left0 left1 taken0 taken1 : Option (List ℕ)) : Type 0 where

@@ -1,4 +1,5 @@
 pub mod Words
 pub mod Answers
+pub mod Promised
 pub mod Endings
 pub mod Turns

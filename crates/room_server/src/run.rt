@@ -2,9 +2,10 @@
 ghost use Rattle.std.specs.Prelude.{◌≡◌, ◌⊎◌, ◌≤◌, ◌+◌, ◌^◌, ℕ, List, [], ◌∷◌, length, Contains, None, Some, IfSome};
 ghost use Rattle.outside.specs.Faults.{Rose};
 ghost use Rattle.streams.specs.Reads.{Reads, Takes, TakesFront};
-ghost use Rattle.text_model.specs.Paths.{Path, IsTextOf};
+ghost use Rattle.text_model.specs.Paths.{Path, IsTextOf, first_path};
 ghost use Rattle.room_server.specs.Answers.{output_for};
 ghost use Rattle.room_server.specs.Endings.{status_of, IsReplayed, IsRefused, IsNoSchedule, IsQuiet, IsEnded};
+ghost use Rattle.room_server.specs.Promised.{KeepsTaken};
 ghost use Rattle.room_server.specs.Words.{task_of, usage_line};
 ghost use Rattle.room_server.specs.declared.ending.Ending.TheVariants as ending;
 ghost use Rattle.room_server.specs.declared.task.Task.TheVariants.{Replay};
@@ -31,7 +32,9 @@ pub fn run<S: Source, K: Sink, W: Wire, C: Clock, I: Ids>(
 ) -> u8
     ensures status { Contains (0 ∷ 2 ∷ 3 ∷ 4 ∷ 5 ∷ 7 ∷ []) result }
 
-    // 0: the source was read to its end, its bytes are the text of a schedule, and the sink took exactly what is printed of it.
+    // 0: the source was read to its end, its bytes are the text of a schedule, the sink took exactly what is printed of
+    // it, and of its events, after every prefix of them: each live client's frames decode to exactly what it may see,
+    // what a life is sent is what the schema and its record are sent, and no room passes its places.
     ensures done { result ≡ 0 → (task_of words.now ≡ Some Replay)
         × IsReplayed (S.left source.old) (S.left source.new) (K.taken sink.old) (K.taken sink.new) }
 
@@ -51,6 +54,10 @@ pub fn run<S: Source, K: Sink, W: Wire, C: Clock, I: Ids>(
     // Whatever the status is, the sink took a front of what the words and the text call for.
     ensures front { (text : List ℕ) × IfSome (S.left source.old) (λ all. all ≡ text)
         × TakesFront (K.taken sink.old) (K.taken sink.new) (output_for (task_of words.now) text) }
+
+    // Whatever the status is, the same three promises hold of the events whose outputs the sink took whole.
+    ensures promises { task_of words.now ≡ Some Replay → IfSome (S.left source.old) (λ text. (parts : Path) → IsTextOf text parts
+        → KeepsTaken (K.taken sink.old) (K.taken sink.new) (first_path parts)) }
 
     // Where no count rose, words that are no command's get 2; and where memory didn't run out either, a text decides the status.
     ensures usage_always { task_of words.now ≡ None → (Rose (K.faults sink.old) (K.faults sink.new) → ⊥) → result ≡ 2 }

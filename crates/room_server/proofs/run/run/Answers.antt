@@ -1,5 +1,6 @@
 use Rattle.std.proofs.Common.{ℕ, [], ◌∷◌, sym, subst, Contains}
 use Rattle.room_server.proofs.EndingLaws.{status_listed, ended_done, ended_refused, front_ended, done_always, refused_always}
+use Rattle.room_server.proofs.PathPromises.{taken_keep}
 use Rattle.room_server.proofs.run.run.Goals as goal
 
 pub returns-clause-status : goal.returns-clause-status
@@ -20,3 +21,6 @@ returns-clause-done_always g c = done_always _ _ _ _ _ c.answer.result c.status.
 
 pub returns-clause-refused_always : goal.returns-clause-refused_always
 returns-clause-refused_always g c = refused_always _ _ _ _ _ c.answer.result c.status.result _ _ _ _ c.answer.ensures.ends c.status.ensures c.answer.ensures.read_cause c.answer.ensures.write_cause
+
+pub returns-clause-promises : goal.returns-clause-promises
+returns-clause-promises g c is = taken_keep _ _ _
