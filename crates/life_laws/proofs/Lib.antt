@@ -3,3 +3,4 @@ pub mod RunSteps
 pub mod GoodSteps
 pub mod Kept
 pub mod LedgerPlaces
+pub mod RecordBytes
