@@ -21,6 +21,10 @@ pub data Entry : Type 0 where
   -- its reservation or its kept seat lapses
   Lapsed : Entry
 
+-- a life's record: its entries, in the order of the run
+abbrev pub Record : Type 0
+Record = List Entry
+
 -- what its connections are given: the bytes of a frame, or a closing with its code
 pub data Sending : Type 0 where
   Frame : (bytes : List ℕ) → Sending

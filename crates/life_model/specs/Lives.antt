@@ -22,7 +22,7 @@ use Rattle.hub_model.specs.declared.event.HubOut.{HubOut}
 use Rattle.hub_model.specs.declared.event.HubOut.TheVariants as out
 use Rattle.hub_model.specs.Hub.{HubValue, HubRoom, HubConn, new_hub, room_of, conn_of, conn_for, hub_step}
 use Rattle.hub_model.specs.Replies.{reply_text}
-use Rattle.life_model.specs.Entries.{Entry, Asked, Opened, Framed, Told, Ticked, Dropped, Kicked, Lapsed, Sending, Frame, Closing}
+use Rattle.life_model.specs.Entries.{Entry, Record, Asked, Opened, Framed, Told, Ticked, Dropped, Kicked, Lapsed, Sending, Frame, Closing}
 
 -- a life: its room and session, whether it goes on, its record, what its connections were given, and its permitted
 -- rows at its room's last tick
@@ -30,7 +30,7 @@ pub record Life : Type 0 where
   pub room : List ℕ
   pub session : List ℕ
   pub lasts : Bool
-  pub entries : List Entry
+  pub entries : Record
   pub outputs : List Sending
   pub view : List RowEntry
 

@@ -12,7 +12,7 @@ use Rattle.frame_model.specs.declared.frame.ClientFrame.{ClientFrame}
 use Rattle.frame_model.specs.declared.frame.ClientFrame.TheVariants as client
 use Rattle.frame_model.specs.declared.fault.FrameFault.{FrameFault}
 use Rattle.room_model.specs.Room.{join_frame}
-use Rattle.life_model.specs.Entries.{Entry, Asked, Opened, Framed, Told, Ticked, Dropped, Kicked, Lapsed, Sending, Frame, Closing}
+use Rattle.life_model.specs.Entries.{Entry, Record, Asked, Opened, Framed, Told, Ticked, Dropped, Kicked, Lapsed, Sending, Frame, Closing}
 
 -- how far a life is, with the messages that wait for its full state, or the rows of the last tick that it saw
 pub data Standing : Type 0 where
@@ -133,9 +133,9 @@ abbrev pub life_start : Progress
 life_start = record { standing = Reserved; given = [] }
 
 -- how far a record leads
-abbrev pub progress_of : Schema → List Entry → Progress
+abbrev pub progress_of : Schema → Record → Progress
 progress_of schema entries = fold (after_entry schema) life_start entries
 
 -- what a record is sent
-abbrev pub sent : Schema → List Entry → List Sending
+abbrev pub sent : Schema → Record → List Sending
 sent schema entries = (progress_of schema entries).given

@@ -1,0 +1,16 @@
+pub mod SchemaRows
+pub mod NamesFound
+pub mod ItemWords
+pub mod LineForms
+pub mod LinePlain
+pub mod DraftTable
+pub mod DraftKept
+pub mod DraftLines
+pub mod LineTaken
+pub mod DraftWhole
+pub mod Known
+pub mod Spelled
+pub mod DraftSchema
+pub mod DraftOf
+pub mod LinesRead
+pub mod SchemaLaw
