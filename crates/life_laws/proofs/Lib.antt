@@ -4,3 +4,4 @@ pub mod GoodSteps
 pub mod Kept
 pub mod LedgerPlaces
 pub mod RecordBytes
+pub mod LedgerRows
