@@ -1,6 +1,6 @@
-ghost use Rattle.std.specs.Prelude.{◌≡◌, ◌++◌, ◌<◌, ◌≤◌, length, take, IfOk, IfSome, Some};
+ghost use Rattle.std.specs.Prelude.{◌<◌, ◌≤◌, length, take, IfOk, OnErr};
 ghost use Rattle.outside.specs.Faults.{HasCause};
-ghost use Rattle.outside.specs.Streams.{count_of};
+ghost use Rattle.outside.specs.Streams.{Takes, TakesFront};
 
 use crate::fault::Failed;
 
@@ -15,10 +15,11 @@ pub trait Sink {
     ghost taken: { Self → Option (List ℕ) };
 
     /// Takes a front of the bytes, and answers how many it took. To take none of a piece that isn't
-    /// empty is a failure.
+    /// empty is a failure. A call that fails may have taken a front all the same.
     fn write(&mut self, from: &[u8]) -> Result<usize, Failed>
         ensures within { IfOk result (λ count. count ≤ length from.now) }
         ensures some { IfOk result (λ count. 0 < length from.now → 0 < count) }
-        ensures taken { IfSome (taken self.old) (λ before. taken self.new ≡ Some (before ++ take (count_of result) from.now)) }
+        ensures taken { IfOk result (λ count. Takes (taken self.old) (taken self.new) (take count from.now)) }
+        ensures part { OnErr result (TakesFront (taken self.old) (taken self.new) from.now) }
         ensures cause { HasCause (faults self.old) (faults self.new) result };
 }

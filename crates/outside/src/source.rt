@@ -1,6 +1,6 @@
-ghost use Rattle.std.specs.Prelude.{◌≤◌, length, IfOk, OnErr, IfSome, ◌≡◌};
+ghost use Rattle.std.specs.Prelude.{◌≤◌, length, IfOk, OnErr, IfSome};
 ghost use Rattle.outside.specs.Faults.{HasCause};
-ghost use Rattle.outside.specs.Streams.{Hands};
+ghost use Rattle.outside.specs.Streams.{Hands, Keeps};
 
 use crate::fault::Failed;
 
@@ -19,6 +19,6 @@ pub trait Source {
     fn read(&mut self, into: &mut [u8]) -> Result<usize, Failed>
         ensures within { IfOk result (λ count. count ≤ length into.old) }
         ensures bytes { IfOk result (λ count. IfSome (left self.old) (λ bytes. Hands bytes (left self.new) count into.new)) }
-        ensures err { OnErr result (left self.new ≡ left self.old) }
+        ensures err { OnErr result (Keeps (left self.old) (left self.new)) }
         ensures cause { HasCause (faults self.old) (faults self.new) result };
 }

@@ -1,4 +1,5 @@
-ghost use Rattle.std.specs.Prelude.{◌≡◌, ◌<◌, ◌≤◌, length, IfSome, None};
+ghost use Rattle.std.specs.Prelude.{◌≡◌, ◌<◌, ◌≤◌, [], length, take, IfSome, None};
+ghost use Rattle.outside.specs.Streams.{Takes, TakesFront};
 
 use crate::fault::Failed;
 use crate::sink::Sink;
@@ -9,8 +10,7 @@ use std::marker::Model;
 const TRIES: u32 = 1000;
 
 /// A sink over a writer of std, as `std::io::writer(&rt)`. Each write is flushed; where only the flush
-/// fails, the call has failed though its bytes may have gone. It tells nothing of its bytes; contracts
-/// see it as how often it has failed.
+/// fails, the call has failed though its bytes may have gone. It tells of its bytes what the writer tells.
 #[derive(Drop)]
 pub struct StdSink<W> {
     writer: W,
@@ -18,33 +18,33 @@ pub struct StdSink<W> {
 }
 
 impl<W> Model for StdSink<W> {
-    ghost use Rattle.std.specs.Prelude.{ℕ};
+    ghost use Rattle.outside.specs.Adapters.{Adapter};
 
-    ghost Value = { ℕ };
+    ghost Value = { Adapter W };
 
-    ghost view = { λ s. s.faults };
+    ghost view = { λ s. record { inside = s.writer; faults = s.faults } };
 }
 
 impl<W> StdSink<W> {
     /// Takes the writer over.
     pub fn new(writer: W) -> Self
-        ensures { result ≡ 0 }
+        ensures { result ≡ record { inside = writer; faults = 0 } }
     {
         StdSink { writer, faults: 0 }
     }
 
     /// How often it has failed.
     pub fn faults(&self) -> u64
-        ensures { result ≡ self.now }
+        ensures { result ≡ self.now.faults }
     {
         self.faults
     }
 }
 
 impl<W: Write> Sink for StdSink<W> {
-    ghost faults = { λ s. s };
+    ghost faults = { λ s. s.faults };
 
-    ghost taken = { λ _. None };
+    ghost taken = { λ s. W.contents s.inside };
 
     fn write(&mut self, from: &[u8]) -> Result<usize, Failed> {
         match write_through(&mut self.writer, from) {
@@ -61,6 +61,8 @@ impl<W: Write> Sink for StdSink<W> {
 fn write_through<W: Write>(writer: &mut W, from: &[u8]) -> Option<usize>
     ensures within { IfSome result (λ count. count ≤ length from.now) }
     ensures some { IfSome result (λ count. 0 < length from.now → 0 < count) }
+    ensures taken { IfSome result (λ count. Takes (W.contents writer.old) (W.contents writer.new) (take count from.now)) }
+    ensures part { result ≡ None → TakesFront (W.contents writer.old) (W.contents writer.new) from.now }
 {
     let count = write_some(writer, from)?;
     if count == 0 && !from.is_empty() {
@@ -72,7 +74,9 @@ fn write_through<W: Write>(writer: &mut W, from: &[u8]) -> Option<usize>
 
 // Writes once, and again where a signal interrupted it.
 fn write_some<W: Write>(writer: &mut W, from: &[u8]) -> Option<usize>
-    ensures { IfSome result (λ count. count ≤ length from.now) }
+    ensures within { IfSome result (λ count. count ≤ length from.now) }
+    ensures taken { IfSome result (λ count. Takes (W.contents writer.old) (W.contents writer.new) (take count from.now)) }
+    ensures none { result ≡ None → Takes (W.contents writer.old) (W.contents writer.new) [] }
 {
     for _ in 0..TRIES {
         match writer.write(from) {
