@@ -14,7 +14,7 @@ use crate::marks::add_number;
 use crate::place::{kind_wanted, value_told};
 use plain_rows::NumberSet;
 use schema_model::{Home, Memory, ScalarKind, Schema, Value};
-use state_model::{Rows, item_wants, same_value};
+use state_model::{Rows, item_wants};
 use std::alloc::Global;
 use wire_model::{Op, Ops};
 
@@ -79,7 +79,7 @@ fn is_found(values: &[Value], value: &Value) -> bool
     ensures { result ≡ stands_in values.now value.now }
 {
     for other in values {
-        if same_value(value, other) {
+        if value.same(other) {
             return true;
         }
     }
@@ -150,7 +150,7 @@ fn after_first<'a>(values: &'a [Value], value: &Value) -> Option<&'a [Value]>
     ensures { option_copied result ≡ after_first values.now value.now }
 {
     match values.split_first() {
-        Some((first, rest)) if same_value(first, value) => Some(rest),
+        Some((first, rest)) if first.same(value) => Some(rest),
         _ => None,
     }
 }

@@ -11,7 +11,7 @@ ghost use Rattle.canon_patch.specs.Told.{item_told};
 use crate::numbers::either_numbers;
 use crate::place::{is_link, kind_wanted, push_added, push_exchanged, push_replaced};
 use schema_model::{Home, Memory, ScalarKind, Schema};
-use state_model::{MapItem, MapItems, Rows, item_wants, same_value};
+use state_model::{MapItem, MapItems, Rows, item_wants};
 use std::alloc::Global;
 use wire_model::{Op, OpKey, Ops};
 
@@ -80,7 +80,7 @@ fn push_item(
             push_added(alloc, ops, rows, key, kind, &item.value)
         }
         (Some(before), Some(item)) => {
-            if same_value(&before.value, &item.value) {
+            if before.value.same(&item.value) {
                 Ok(())
             } else if is_link(&item.value) {
                 let key = OpKey::Named(number, item.key.copy(alloc)?);

@@ -10,7 +10,7 @@ ghost use Rattle.wire_model.specs.Patch.{carried, changed_place, kind_in, kind_w
 
 use lists::Seq;
 use schema_model::{Item, Memory, RefNum, ScalarKind, TypeNum, Value};
-use state_model::{Row, Rows, Wanted, same_value};
+use state_model::{Row, Rows, Wanted};
 use std::alloc::Global;
 use wire_model::{Op, OpKey, OpValue, Ops};
 
@@ -32,7 +32,7 @@ pub(crate) fn push_place(
         (Some(_), None) => ops.push(Op::Delete(key)),
         (None, Some(value)) => push_added(alloc, ops, rows, key, kind, value),
         (Some(before), Some(value)) => {
-            if same_value(before, value) {
+            if before.same(value) {
                 Ok(())
             } else if is_link(value) {
                 push_exchanged(alloc, ops, rows, key, kind, value)

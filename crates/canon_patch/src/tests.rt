@@ -299,6 +299,20 @@ fn array_loses_its_first(rt: HostRuntime) -> Result<(), Fail> {
 }
 
 #[test]
+fn long_array_gets_one_more(rt: HostRuntime) -> Result<(), Fail> {
+    let schema = state(
+        rt.alloc(),
+        Shape::Array(Item::Scalar(ScalarKind::Number)),
+        None,
+    )?;
+    let old = with_array(rt.alloc(), numbers(rt.alloc(), &[7; 300])?)?;
+    let new = with_array(rt.alloc(), numbers(rt.alloc(), &[7; 301])?)?;
+    let bytes = [0xff, 0x01, 0x80, 0xcd, 0x2c, 0x01, 0x07];
+    assert!(rt; is_patch(rt.alloc(), &schema, &old, &new, &bytes)?);
+    Ok(())
+}
+
+#[test]
 fn filtered_array_changes_places(rt: HostRuntime) -> Result<(), Fail> {
     let schema = state(
         rt.alloc(),

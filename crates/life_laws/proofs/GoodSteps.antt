@@ -4,6 +4,7 @@ use Rattle.std.specs.Prelude.{ℤ}
 use Rattle.std.specs.Str.{bytes_eq}
 use Rattle.std.proofs.lemmas.Bool.{and_parts, eqb-true, ltb-true}
 use Rattle.std.proofs.lemmas.List.Sums.{fold-append}
+use Rattle.lists.proofs.SameBytes.{same_bytes}
 use Rattle.schema_model.specs.Classes.{Schema}
 use Rattle.schema_model.specs.Fits.{in_signed}
 use Rattle.schema_model.specs.declared.value.Value.{Value}
@@ -36,7 +37,7 @@ use Rattle.room_core.specs.declared.place.Phase.TheVariants.{Empty, Reserved, Jo
 use Rattle.room_core.specs.Steps.{ticked_phase, put_number, phase_outs}
 use Rattle.room_core.specs.Takes.{is_number_put}
 use Rattle.room_core.specs.Values.{patch_of}
-use Rattle.room_core.proofs.RoomSteps.{same_id, tick_room, put_room, enter_room, frame_mine}
+use Rattle.room_core.proofs.RoomSteps.{tick_room, put_room, enter_room, frame_mine}
 use Rattle.life_laws.specs.Courses.{is_turn}
 use Rattle.life_laws.proofs.Points.{Setting, Point, Good, Decodes, room_in, own_conn, conns_in, criteria_of, run_in, event_in, is_joined, progress_in}
 use Rattle.life_laws.proofs.RunSteps.{point, own_reservation, at_step, room_event, tick_step, tick_gives, tick_recorded, tick_sendings, sending_of, command_step, opening, opening_here, opening_step, acknowledgement, acknowledgement_here, acknowledgement_step, reply_in}
@@ -243,13 +244,13 @@ OneEvent s p e = (q : Point) × (run_step s.schema (run_in s p) e ≡ run_in s q
 
 by_tick : (s : Setting) (p : Point) (id : List ℕ) → is_number_schema s.schema ≡ true → Good s p → bytes_eq id s.room ≡ true → OneEvent s p (event.Tick id)
 by_tick s p id numbers g same =
-    let e : id ≡ s.room = same_id id s.room same in
+    let e : id ≡ s.room = same_bytes id s.room same in
     (after_ticking s p, ap (λ x. run_step s.schema (run_in s p) (event.Tick x)) e ∙ tick_runs s p numbers g, good_tick s p numbers g, inr refl)
 
 by_put : (s : Setting) (p : Point) (id : List ℕ) (c : Command) → is_number_schema s.schema ≡ true → Good s p → bytes_eq id s.room ≡ true
     → IsPut (number_count s.schema) c → OneEvent s p (event.Act id (act.State c))
 by_put s p id c numbers g same q =
-    let e : id ≡ s.room = same_id id s.room same in (
+    let e : id ≡ s.room = same_bytes id s.room same in (
       after_put p (number_rows (put_number q.field q.whole g.rows_are.fields)),
       ap (λ x. run_step s.schema (run_in s p) (event.Act x (act.State c))) e ∙ put_runs s p c q numbers g,
       good_put s p c q g,

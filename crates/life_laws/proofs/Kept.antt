@@ -2,6 +2,7 @@
 use Rattle.std.proofs.Common.{◌≡◌, ◌⊎◌, ℕ, zero, suc, append-nil, ◌≤◌, Bool, true, false, List, [], ◌∷◌, ◌++◌, map, max, take, Contains, Ok, refl, sym, ap, ◌∙◌, subst, arith, inl, inr}
 use Rattle.std.specs.List.{fold, list_all}
 use Rattle.std.proofs.lemmas.Bool.{and_parts}
+use Rattle.lists.proofs.SameBytes.{bytes_eq_self}
 use Rattle.schema_model.specs.Classes.{Schema}
 use Rattle.wire_model.specs.Decoded.{seen}
 use Rattle.plain_rows.specs.Numbers.{is_number_schema, number_count}
@@ -15,7 +16,6 @@ use Rattle.life_model.specs.Sent.{sent, Progress}
 use Rattle.room_core.specs.declared.place.Phase.{Phase}
 use Rattle.room_core.specs.declared.place.Phase.TheVariants.{Empty, Reserved, Joining, Due, Live}
 use Rattle.room_core.specs.Steps.{ticked_phase}
-use Rattle.room_core.proofs.RoomSteps.{id_same}
 use Rattle.life_laws.specs.Courses.{CoursesKeep, ask_of, opening_of, acknowledgement_of, is_turn}
 use Rattle.life_laws.proofs.Points.{Setting, Point, Good, Decodes, run_in, hub_in, life_in}
 use Rattle.life_laws.proofs.RunSteps.{point, before_request, request_step}
@@ -38,11 +38,11 @@ live_in s p = by_phase p.phase
   where
     by_phase : (phase : Phase) → (let q = point p.now phase p.rows p.shared p.token p.lapse p.entries p.outputs in
         is_live (hub_in s q) (life_in s q) ≡ is_live_phase phase)
-    by_phase Empty = rw (id_same s.room) refl
-    by_phase Reserved = rw (id_same s.room, id_same s.session) refl
-    by_phase Joining = rw (id_same s.room, id_same s.session) refl
-    by_phase Due = rw (id_same s.room, id_same s.session) refl
-    by_phase Live = rw (id_same s.room, id_same s.session) refl
+    by_phase Empty = rw (bytes_eq_self s.room) refl
+    by_phase Reserved = rw (bytes_eq_self s.room, bytes_eq_self s.session) refl
+    by_phase Joining = rw (bytes_eq_self s.room, bytes_eq_self s.session) refl
+    by_phase Due = rw (bytes_eq_self s.room, bytes_eq_self s.session) refl
+    by_phase Live = rw (bytes_eq_self s.room, bytes_eq_self s.session) refl
 
 decoded_live : (schema : Schema) (phase : Phase) (p : Point) → Decodes schema phase p.shared p.outputs → is_live_phase phase ≡ true
     → seen schema (latest_frames p.outputs) ≡ Ok p.shared

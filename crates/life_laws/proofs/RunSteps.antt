@@ -2,6 +2,7 @@
 use Rattle.std.proofs.Common.{◌≡◌, ℕ, ◌+◌, true, List, [], ◌∷◌, ◌++◌, max, Option, Some, None, refl, ap, ◌∙◌}
 use Rattle.std.proofs.lemmas.Bool.{eq-eqb}
 use Rattle.std.specs.List.{flat_map}
+use Rattle.lists.proofs.SameBytes.{bytes_eq_self}
 use Rattle.state_model.specs.declared.row.RowEntry.{RowEntry}
 use Rattle.state_model.specs.declared.command.Command.{Command}
 use Rattle.state_model.specs.Rows.{root_alone}
@@ -23,7 +24,6 @@ use Rattle.room_core.specs.declared.place.Phase.{Phase}
 use Rattle.room_core.specs.declared.place.Phase.TheVariants.{Empty, Reserved, Joining, Due, Live}
 use Rattle.room_core.specs.Steps.{ticked_phase, sent_to}
 use Rattle.room_core.specs.Values.{reserved_seats}
-use Rattle.room_core.proofs.RoomSteps.{id_same}
 use Rattle.life_laws.proofs.Points.{Setting, Point, room_in, own_conn, conns_in, hub_with, hub_in, run_in, event_in, is_joined}
 
 -- a point by its parts
@@ -38,10 +38,10 @@ pub at_step : (s : Setting) (now : ℕ) (phase : Phase) (rows shared : List RowE
     → run_step s.schema (run_in s (point now phase rows shared token lapse entries outputs)) (event.At ms)
     ≡ run_in s (point (max now (moment_of ms)) phase rows shared token lapse (entries ++ []) (outputs ++ []))
 at_step s now Empty rows shared token lapse entries outputs ms h = cc
-at_step s now Reserved rows shared token lapse entries outputs ms h = rw (id_same s.room, id_same s.session) refl
-at_step s now Joining rows shared token lapse entries outputs ms h = rw (id_same s.room, id_same s.session) refl
-at_step s now Due rows shared token lapse entries outputs ms h = rw (id_same s.room, id_same s.session) refl
-at_step s now Live rows shared token lapse entries outputs ms h = rw (id_same s.room, id_same s.session) refl
+at_step s now Reserved rows shared token lapse entries outputs ms h = rw (bytes_eq_self s.room, bytes_eq_self s.session) refl
+at_step s now Joining rows shared token lapse entries outputs ms h = rw (bytes_eq_self s.room, bytes_eq_self s.session) refl
+at_step s now Due rows shared token lapse entries outputs ms h = rw (bytes_eq_self s.room, bytes_eq_self s.session) refl
+at_step s now Live rows shared token lapse entries outputs ms h = rw (bytes_eq_self s.room, bytes_eq_self s.session) refl
 
 -- ---- an event of the room
 
@@ -49,7 +49,7 @@ at_step s now Live rows shared token lapse entries outputs ms h = rw (id_same s.
 room_here : (s : Setting) (now : ℕ) (conns : List HubConn) (room : RoomValue) (e : RoomEvent)
     → room_stepped (hub_with s now conns room) s.room e
     ≡ (hub_with s now conns (room_step room e).0, flat_map (told_out conns s.room) (room_step room e).1)
-room_here s now conns room e = rw (id_same s.room) refl
+room_here s now conns room e = rw (bytes_eq_self s.room) refl
 
 pub room_event : (s : Setting) (p : Point) (conns : List HubConn) (e : HubEvent) (r : RoomEvent)
     → hub_step s.schema (hub_in s p) e ≡ room_stepped (hub_with s p.now conns (room_in s p.phase p.rows p.shared p.token p.lapse)) s.room r
@@ -86,13 +86,13 @@ pub tick_step : (s : Setting) (now : ℕ) (phase : Phase) (rows shared : List Ro
     (room_in s (ticked_phase phase) rows rows token lapse, tick_gives phase full patch s.session)
     ≡ run_in s (point now (ticked_phase phase) rows rows token lapse (entries ++ tick_recorded phase rows) (outputs ++ tick_sendings phase full patch))
 tick_step s now Empty rows shared token lapse entries outputs full patch h all = cc
-tick_step s now Reserved rows shared token lapse entries outputs full patch h all = rw (id_same s.room, id_same s.session, all) refl
-tick_step s now Joining rows shared token lapse entries outputs full patch h all = rw (id_same s.room, id_same s.session, all) refl
+tick_step s now Reserved rows shared token lapse entries outputs full patch h all = rw (bytes_eq_self s.room, bytes_eq_self s.session, all) refl
+tick_step s now Joining rows shared token lapse entries outputs full patch h all = rw (bytes_eq_self s.room, bytes_eq_self s.session, all) refl
 tick_step s now Due rows shared token lapse entries outputs full patch h all =
-    rw (id_same s.room, id_same s.session, eq-eqb s.opener s.opener refl, id_same s.room, id_same s.session, all) refl
-tick_step s now Live rows shared token lapse entries outputs full None h all = rw (id_same s.room, id_same s.session, all) refl
+    rw (bytes_eq_self s.room, bytes_eq_self s.session, eq-eqb s.opener s.opener refl, bytes_eq_self s.room, bytes_eq_self s.session, all) refl
+tick_step s now Live rows shared token lapse entries outputs full None h all = rw (bytes_eq_self s.room, bytes_eq_self s.session, all) refl
 tick_step s now Live rows shared token lapse entries outputs full (Some bytes) h all =
-    rw (id_same s.room, id_same s.session, eq-eqb s.opener s.opener refl, id_same s.room, id_same s.session, all) refl
+    rw (bytes_eq_self s.room, bytes_eq_self s.session, eq-eqb s.opener s.opener refl, bytes_eq_self s.room, bytes_eq_self s.session, all) refl
 
 -- ---- a command that gives nothing
 
@@ -102,10 +102,10 @@ pub command_step : (s : Setting) (now : ℕ) (phase : Phase) (rows shared after 
     (room_in s phase after shared token lapse, [])
     ≡ run_in s (point now phase after shared token lapse (entries ++ []) (outputs ++ []))
 command_step s now Empty rows shared after token lapse entries outputs command h = cc
-command_step s now Reserved rows shared after token lapse entries outputs command h = rw (id_same s.room, id_same s.session) refl
-command_step s now Joining rows shared after token lapse entries outputs command h = rw (id_same s.room, id_same s.session) refl
-command_step s now Due rows shared after token lapse entries outputs command h = rw (id_same s.room, id_same s.session) refl
-command_step s now Live rows shared after token lapse entries outputs command h = rw (id_same s.room, id_same s.session) refl
+command_step s now Reserved rows shared after token lapse entries outputs command h = rw (bytes_eq_self s.room, bytes_eq_self s.session) refl
+command_step s now Joining rows shared after token lapse entries outputs command h = rw (bytes_eq_self s.room, bytes_eq_self s.session) refl
+command_step s now Due rows shared after token lapse entries outputs command h = rw (bytes_eq_self s.room, bytes_eq_self s.session) refl
+command_step s now Live rows shared after token lapse entries outputs command h = rw (bytes_eq_self s.room, bytes_eq_self s.session) refl
 
 -- ---- the opening of the reservation
 
@@ -115,18 +115,18 @@ opening s fresh = event.Opening s.opener (opening_target s.process s.room s.sess
 pub opening_here : (s : Setting) (now : ℕ) (rows shared : List RowEntry) (token : List ℕ) (lapse : ℕ) (fresh : List ℕ)
     → hub_step s.schema (hub_with s now [] (room_in s Reserved rows shared token lapse)) (opening s fresh)
     ≡ room_stepped (hub_with s now (own_conn s ∷ []) (room_in s Reserved rows shared token lapse)) s.room (happened.Enter s.session None fresh)
-opening_here s now rows shared token lapse fresh = rw (id_same (opening_target s.process s.room s.session)) refl
+opening_here s now rows shared token lapse fresh = rw (bytes_eq_self (opening_target s.process s.room s.session)) refl
 
 -- the session has the reservation
 pub own_reservation : (s : Setting) (lapse : ℕ) → has_reservation (reserved_seats s.def.max s.session lapse) s.session ≡ true
-own_reservation s lapse = rw (id_same s.session) refl
+own_reservation s lapse = rw (bytes_eq_self s.session) refl
 
 pub opening_step : (s : Setting) (now : ℕ) (rows shared : List RowEntry) (token : List ℕ) (lapse : ℕ) (entries : List Entry) (outputs : List Sending) (fresh : List ℕ)
     → event_in s (point now Reserved rows shared token lapse entries outputs) (own_conn s ∷ []) (opening s fresh)
     (room_in s Joining rows shared fresh lapse, enter_outs s.session fresh)
     ≡ run_in s (point now Joining rows shared fresh lapse (entries ++ Opened fresh ∷ []) (outputs ++ Frame (join_frame fresh) ∷ []))
 opening_step s now rows shared token lapse entries outputs fresh =
-    rw (id_same s.room, id_same s.session, eq-eqb s.opener s.opener refl, id_same s.room, id_same s.session) refl
+    rw (bytes_eq_self s.room, bytes_eq_self s.session, eq-eqb s.opener s.opener refl, bytes_eq_self s.room, bytes_eq_self s.session) refl
 
 -- ---- the acknowledgement
 
@@ -143,7 +143,7 @@ pub acknowledgement_step : (s : Setting) (now : ℕ) (rows shared : List RowEntr
     (room_in s Due rows shared token lapse, [])
     ≡ run_in s (point now Due rows shared token lapse (entries ++ Framed (10 ∷ []) ∷ []) (outputs ++ []))
 acknowledgement_step s now rows shared token lapse entries outputs =
-    rw (id_same s.room, id_same s.session, eq-eqb s.opener s.opener refl, id_same s.room, id_same s.session) refl
+    rw (bytes_eq_self s.room, bytes_eq_self s.session, eq-eqb s.opener s.opener refl, bytes_eq_self s.room, bytes_eq_self s.session) refl
 
 -- ---- the request
 
@@ -166,4 +166,4 @@ pub request_step : (s : Setting) (now conn : ℕ) (body : List ℕ)
     ≡ run_in s (point now Reserved (root_alone s.schema) (root_alone s.schema) [] (now + s.def.seat)
     (Asked (join_or_create_target s.def.name) body (reply_in s) ∷ []) [])
 request_step s now conn body =
-    rw (id_same (join_or_create_target s.def.name), id_same s.session, id_same s.room, id_same s.session, eq-eqb conn conn refl, id_same (reply_in s)) refl
+    rw (bytes_eq_self (join_or_create_target s.def.name), bytes_eq_self s.session, bytes_eq_self s.room, bytes_eq_self s.session, eq-eqb conn conn refl, bytes_eq_self (reply_in s)) refl

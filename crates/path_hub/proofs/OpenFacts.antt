@@ -4,6 +4,7 @@ use Rattle.std.specs.Prelude.{IfOk, Result, Ok, Err, is_some}
 use Rattle.std.specs.List.{find}
 use Rattle.std.specs.Option.{option_map, option_map_or}
 use Rattle.std.specs.Str.{bytes_eq}
+use Rattle.lists.proofs.SameBytes.{bytes_eq_self}
 use Rattle.schema_model.specs.Classes.{Schema}
 use Rattle.hub_model.specs.Hub.{hub_step, opened, room_stepped}
 use Rattle.hub_model.specs.Replies.{opening_target}
@@ -15,7 +16,6 @@ use Rattle.text_model.specs.Paths.{event_of}
 use Rattle.text_model.specs.declared.path.FirstPath.{FirstPath}
 use Rattle.text_model.specs.declared.path.Item.TheVariants.{Open}
 use Rattle.path_hub.specs.PathHub.{hub_of, Fits}
-use Rattle.path_hub.proofs.PathFacts.{bytes_eq_same}
 
 open_outs : (p : FirstPath) (schema : Schema) (now : ℕ) (room : Option Held) (from : Option ℕ) (conn : ℕ) (fresh : List ℕ) → is_some from ≡ false → Fits p room from
     → (room_stepped (hub_of p now room (Some conn)) p.room (event.Enter p.session None fresh)).1
@@ -26,7 +26,7 @@ open_outs p schema now (Some h) None conn fresh none fits =
     let target = opening_target p.process p.room p.session in
     let seat : Option Reservation → Option (List ℕ × List ℕ) = λ o. option_map_or Some (option_map (λ (s : Reservation). (p.room, s.session)) o) None in
     let found = ap (λ rs. seat (find (λ (s : Reservation). bytes_eq target (opening_target p.process p.room s.session)) rs)) fits.1.1
-    ∙ ap (λ b. seat (cond b (Some (record { session = p.session; lapse = fits.1.0 })) None)) (bytes_eq_same target) in
+    ∙ ap (λ b. seat (cond b (Some (record { session = p.session; lapse = fits.1.0 })) None)) (bytes_eq_self target) in
     sym (ap (λ o. (opened (hub_of p now (Some h) None) conn fresh o).1) found)
 
 if_ok_same : {E : Type 0} (r : Result (List HubOut) E) (a b : List HubOut) → a ≡ b → IfOk r (λ o. o ≡ a) → IfOk r (λ o. o ≡ b)

@@ -3,9 +3,10 @@ use Rattle.std.proofs.Common.{leb-true, ◌≤◌, ◌≡◌, ℕ, suc, true, fa
 use Rattle.std.specs.Prelude.{nat_le, is_some, ◌+◌, Result, Ok, Err}
 use Rattle.std.specs.Result.{MatchResult, IsOk}
 use Rattle.std.specs.List.{list_all}
-use Rattle.std.specs.Str.{is_utf8, bytes_eq}
+use Rattle.std.specs.Str.{is_utf8}
 use Rattle.std.proofs.lemmas.Bool.{and_parts}
 use Rattle.std.proofs.lemmas.Bool.Decides.{nat_tests}
+use Rattle.lists.proofs.SameBytes.{bytes_eq_self}
 use Rattle.schema_model.specs.Classes.{Schema, Declared, is_kept, item_in_range, item_of}
 use Rattle.schema_model.specs.declared.class.FieldDecl.{FieldDecl}
 use Rattle.plain_rows.specs.Numbers.{is_number_schema}
@@ -66,10 +67,6 @@ with_three f a b c d e g p q r = ap (λ x. f x b c) p ∙ (ap (λ x. f d x c) q 
 
 -- ---- the request
 
-pub bytes_eq_same : (w : List ℕ) → bytes_eq w w ≡ true
-bytes_eq_same [] = refl
-bytes_eq_same (b ∷ bs) = grind (arith, nat_tests, bytes_eq_same bs)
-
 empty_of_length : {X : Type 0} (xs : List X) → (length xs == 0) ≡ true → xs ≡ []
 empty_of_length [] h = refl
 empty_of_length (x ∷ xs) h = grind (arith, nat_tests, h)
@@ -84,7 +81,7 @@ seat_within p h = leb-true p.def.seat 3600000 (and_parts _ _ (and_parts _ _ h).1
 
 -- the one definition is the one that its own target asks for
 own_def : (d : RoomDef) → asked_def (d ∷ []) (join_or_create_target d.name) ≡ Some d
-own_def d = ap (λ b. cond b (Some d) None) (bytes_eq_same (join_or_create_target d.name))
+own_def d = ap (λ b. cond b (Some d) None) (bytes_eq_self (join_or_create_target d.name))
 
 -- what a request gives
 pub ask_outs : (p : FirstPath) (schema : Schema) (now : ℕ) (room : Option Held) (from : Option ℕ) (conn : ℕ)

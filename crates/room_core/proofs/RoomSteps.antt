@@ -2,7 +2,8 @@
 use Rattle.std.proofs.Common.{◌≡◌, ℕ, Bool, true, false, cond, ◌||◌, List, [], ◌∷◌, ◌++◌, map, Some, None, refl, sym, ap, ◌∙◌, subst}
 use Rattle.std.specs.Prelude.{◌^◌, ◌<◌, ℤ}
 use Rattle.std.specs.Str.{bytes_eq}
-use Rattle.std.proofs.lemmas.Bool.{and_parts, and_from, eqb-true, eq-eqb, false_from_ne_true}
+use Rattle.std.proofs.lemmas.Bool.{false_from_ne_true}
+use Rattle.lists.proofs.SameBytes.{same_bytes, bytes_eq_self}
 use Rattle.schema_model.specs.Classes.{Schema}
 use Rattle.schema_model.specs.Fits.{in_signed}
 use Rattle.schema_model.specs.declared.value.Value.TheVariants as value
@@ -51,16 +52,6 @@ enter_reserved : (s : Schema) (d : RoomDef) (c : List (List ℕ)) (rows sh : Lis
     → after_enter (room_at Reserved s d c rows sh id fresh lapse) session fresh ≡ room_at Joining s d c rows sh session fresh lapse
 enter_reserved s d c rows sh id session lapse fresh same e = rw (same, e) refl
 
-pub same_id : (a b : List ℕ) → bytes_eq a b ≡ true → a ≡ b
-same_id [] [] h = refl
-same_id [] (y ∷ ys) h = cc
-same_id (x ∷ xs) [] h = cc
-same_id (x ∷ xs) (y ∷ ys) h =
-    let two = and_parts _ _ h in
-    let first : x ≡ y = eqb-true x y two.0 in
-    let rest : xs ≡ ys = same_id xs ys two.1 in
-    cc
-
 reservation_is : (b : Bool) → (b || false) ≡ true → b ≡ true
 reservation_is true h = refl
 reservation_is false h = h
@@ -71,7 +62,7 @@ pub enter_room : (s : Schema) (d : RoomDef) (c : List (List ℕ)) (rows sh : Lis
 enter_room s d c rows sh Empty id token session lapse fresh h = cc
 enter_room s d c rows sh Reserved id token session lapse fresh h =
     let same : bytes_eq id session ≡ true = reservation_is (bytes_eq id session) h in
-    enter_reserved s d c rows sh id session lapse fresh same (same_id id session same)
+    enter_reserved s d c rows sh id session lapse fresh same (same_bytes id session same)
 enter_room s d c rows sh Joining id token session lapse fresh h = cc
 enter_room s d c rows sh Due id token session lapse fresh h = cc
 enter_room s d c rows sh Live id token session lapse fresh h = cc
@@ -94,20 +85,16 @@ frame_other s d c rows sh Joining id session token lapse other = rw other refl
 frame_other s d c rows sh Due id session token lapse other = rw other refl
 frame_other s d c rows sh Live id session token lapse other = rw other refl
 
-pub id_same : (a : List ℕ) → bytes_eq a a ≡ true
-id_same [] = refl
-id_same (x ∷ xs) = and_from _ _ (eq-eqb x x refl) (id_same xs)
-
 -- the room's own session, or another one
 pub frame_mine : (s : Schema) (d : RoomDef) (c : List (List ℕ)) (rows sh : List RowEntry) (phase : Phase) (id session token : List ℕ) (lapse : ℕ) → id ≡ session
     → frame_room (room_at phase s d c rows sh id token lapse) session ≡ room_at (acknowledged_phase phase) s d c rows sh id token lapse
 frame_mine s d c rows sh phase id session token lapse e =
-    frame_own s d c rows sh phase id session token lapse (subst (λ x. bytes_eq id x ≡ true) e (id_same id))
+    frame_own s d c rows sh phase id session token lapse (subst (λ x. bytes_eq id x ≡ true) e (bytes_eq_self id))
 
 pub frame_not_mine : (s : Schema) (d : RoomDef) (c : List (List ℕ)) (rows sh : List RowEntry) (phase : Phase) (id session token : List ℕ) (lapse : ℕ) → (id ≡ session → ⊥)
     → frame_room (room_at phase s d c rows sh id token lapse) session ≡ room_at phase s d c rows sh id token lapse
 frame_not_mine s d c rows sh phase id session token lapse ne =
-    frame_other s d c rows sh phase id session token lapse (false_from_ne_true (bytes_eq id session) (λ t. ne (same_id id session t)))
+    frame_other s d c rows sh phase id session token lapse (false_from_ne_true (bytes_eq id session) (λ t. ne (same_bytes id session t)))
 
 -- ---- a tick
 

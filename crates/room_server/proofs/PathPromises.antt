@@ -4,6 +4,7 @@ use Rattle.std.specs.Prelude.{IfSome}
 use Rattle.std.specs.List.{list_all}
 use Rattle.std.proofs.lemmas.Bool.{and_parts, and_from}
 use Rattle.std.proofs.lemmas.List.{map-append, length-map}
+use Rattle.lists.proofs.SameBytes.{bytes_eq_self}
 use Rattle.hub_model.specs.declared.event.HubEvent.{HubEvent}
 use Rattle.hub_model.specs.declared.event.HubEvent.TheVariants as event
 use Rattle.life_model.specs.Promises.{Keeps, Promises}
@@ -12,7 +13,6 @@ use Rattle.life_laws.specs.Courses.{Course, IsCourse, course_events}
 use Rattle.life_laws.specs.Courses as course
 use Rattle.life_laws.proofs.Kept.{courses_keep}
 use Rattle.plain_rows.specs.Numbers.{number_count}
-use Rattle.path_hub.proofs.PathFacts.{bytes_eq_same}
 use Rattle.room_model.specs.declared.definition.RoomDef.{RoomDef}
 use Rattle.schema_model.specs.Classes.{Schema}
 use Rattle.text_model.specs.declared.path.FirstPath.{FirstPath}
@@ -69,10 +69,10 @@ Turns p is = list_all (course.is_turn (length p.fields) p.room) (events p is) �
 turns_are : (p : Path) (is : List Item) → list_all (is_later_turn (length p.fields)) is ≡ true → Turns p is
 turns_are p [] h = refl
 turns_are p (At ms ∷ is) h = turns_are p is (and_parts _ _ h).1
-turns_are p (Tick ∷ is) h = and_from _ _ (bytes_eq_same p.room) (turns_are p is h)
+turns_are p (Tick ∷ is) h = and_from _ _ (bytes_eq_self p.room) (turns_are p is h)
 turns_are p (Put field z ∷ is) h =
     let both = and_parts _ _ h in
-    and_from _ _ (and_from _ _ (bytes_eq_same p.room) both.0) (turns_are p is both.1)
+    and_from _ _ (and_from _ _ (bytes_eq_self p.room) both.0) (turns_are p is both.1)
 turns_are p (Ask conn ∷ is) h = cc
 turns_are p (Open conn fresh ∷ is) h = cc
 turns_are p (Acknowledge conn ∷ is) h = cc

@@ -1,5 +1,5 @@
 //! Numbers of a fixed width, low byte first.
-ghost use Rattle.std.specs.Prelude.{◌≡◌, ◌≤◌, ◌<◌, ◌^◌, ◌++◌, length, IsTrue, IfOk, OnOk, OnErr};
+ghost use Rattle.std.specs.Prelude.{◌≡◌, ◌≤◌, ◌<◌, ◌^◌, ◌++◌, ℕ, List, length, IsTrue, IfOk, Ok, OnOk, OnErr};
 ghost use Rattle.std.specs.Int.{w8, w16, w32, w64, to_le_bytes};
 ghost use Rattle.schema_model.specs.Reading.{fixed_at, signed_at, unsigned_at};
 ghost use Rattle.scalar_codec.specs.Widths.{is_width, width_of, low_at};
@@ -12,6 +12,9 @@ pub fn put_fixed<const W: usize>(out: &mut Vec<u8>, low: u64) -> Result<(), Memo
     requires width { IsTrue (is_width W) }
     requires fits { low < 256 ^ W }
     ensures ok { OnOk result (out.new.items ≡ out.old.items ++ to_le_bytes (width_of W) low) }
+    // What was written is read again, whatever follows.
+    ensures again { OnOk result ((more : List ℕ) →
+        fixed_at (width_of W) (out.new.items ++ more) (length out.old.items) ≡ Ok (low, length out.new.items)) }
     ensures err { OnErr result (out.new.items ≡ out.old.items) }
 {
     put_bytes(out, &low.to_le_bytes()[..W])

@@ -1,5 +1,5 @@
 //! Scalars of each kind.
-ghost use Rattle.std.specs.Prelude.{◌≡◌, ◌≢◌, ◌≤◌, ◌++◌, length, IsTrue, OnOk, OnErr};
+ghost use Rattle.std.specs.Prelude.{◌≡◌, ◌≢◌, ◌≤◌, ◌++◌, ℕ, List, length, IsTrue, Ok, OnOk, OnErr};
 ghost use Rattle.schema_model.specs.Spelling.{spelling};
 ghost use Rattle.schema_model.specs.Fits.{fits};
 ghost use Rattle.schema_model.specs.Reading.{read_scalar};
@@ -8,24 +8,8 @@ ghost use Rattle.scalar_codec.specs.Gives.{GivesScalar};
 use crate::fixed::{fixed_8, low_and_next, put_fixed};
 use crate::number::{get_number, put_number};
 use crate::text::{get_text, put_text};
-use schema_model::{Memory, ReadFault, ScalarFault, ScalarKind, Text, Value};
+use schema_model::{Memory, ReadFault, ScalarFault, ScalarKind, Text, Value, each_scalar};
 use std::alloc::Global;
-
-// The table of the kinds of a fixed width: the kind, its count of bytes, and whether it has a sign.
-// `$then` is called with what is given and all rows.
-macro_rules! each_scalar {
-    ($then:ident $($given:tt)*) => {
-        $then! {
-            $($given)*
-            (I8 1 signed)
-            (U8 1 unsigned)
-            (I16 2 signed)
-            (U16 2 unsigned)
-            (I32 4 signed)
-            (U32 4 unsigned)
-        }
-    };
-}
 
 // The whole numbers of so many bytes.
 macro_rules! number_of {
@@ -50,7 +34,8 @@ macro_rules! whole_of {
 }
 
 macro_rules! put_each {
-    ($out:ident, $kind:ident, $value:ident; $(($fixed:ident $width:tt $sign:ident))*) => {
+    ($out:ident, $kind:ident, $value:ident; (Number $number:literal number) (Str $text:literal text) (Bool $truth:literal truth)
+        $(($fixed:ident $word:literal $sign:ident $width:tt))*) => {
         match ($kind, $value) {
             (ScalarKind::Number, Value::Whole(whole)) => put_number($out, *whole as i32),
             (ScalarKind::Str, Value::Str(text)) => put_text($out, text.as_str()),
@@ -64,7 +49,8 @@ macro_rules! put_each {
 }
 
 macro_rules! get_each {
-    ($bytes:ident, $at:ident, $kind:ident; $(($fixed:ident $width:tt $sign:ident))*) => {
+    ($bytes:ident, $at:ident, $kind:ident; (Number $number:literal number) (Str $text:literal text) (Bool $truth:literal truth)
+        $(($fixed:ident $word:literal $sign:ident $width:tt))*) => {
         match $kind {
             ScalarKind::Number => {
                 let (found, next) = get_number($bytes, $at)?;
@@ -87,6 +73,9 @@ macro_rules! get_each {
 pub fn put_scalar(out: &mut Vec<u8>, kind: ScalarKind, value: &Value) -> Result<(), Memory>
     requires { IsTrue (fits kind value.now) }
     ensures ok { OnOk result (out.new.items ≡ out.old.items ++ spelling kind value.now) }
+    // What was written is read again, whatever follows.
+    ensures again { OnOk result ((more : List ℕ) →
+        read_scalar (out.new.items ++ more) (length out.old.items) kind ≡ Ok (value.now, length out.new.items)) }
     ensures err { OnErr result (out.new.items ≡ out.old.items) }
 {
     each_scalar!(put_each out, kind, value;)

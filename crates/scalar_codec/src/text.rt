@@ -1,5 +1,5 @@
 //! Texts, with their length in front.
-ghost use Rattle.std.specs.Prelude.{◌≡◌, ◌≤◌, ◌<◌, ◌^◌, ◌++◌, length, Ok, Err, OnOk, OnErr, IfOk, MatchResult};
+ghost use Rattle.std.specs.Prelude.{◌≡◌, ◌≤◌, ◌<◌, ◌^◌, ◌++◌, ℕ, List, length, Ok, Err, OnOk, OnErr, IfOk, MatchResult};
 ghost use Rattle.schema_model.specs.Spelling.{text_bytes, text_head};
 ghost use Rattle.schema_model.specs.Reading.{text_at, text_length, text_of};
 
@@ -11,6 +11,9 @@ use schema_model::{Memory, ReadFault};
 pub fn put_text(out: &mut Vec<u8>, text: &str) -> Result<(), Memory>
     requires { length text.now < 2 ^ 32 }
     ensures ok { OnOk result (out.new.items ≡ out.old.items ++ text_bytes text.now) }
+    // What was written is read again, whatever follows.
+    ensures again { OnOk result ((more : List ℕ) →
+        text_at (out.new.items ++ more) (length out.old.items) ≡ Ok (text.now, length out.new.items)) }
     ensures err { OnErr result (out.new.items ≡ out.old.items) }
 {
     let before = out.len();

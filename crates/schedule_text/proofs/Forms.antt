@@ -9,7 +9,7 @@ use Rattle.text_model.specs.declared.path.Reader.{Reader}
 use Rattle.text_model.specs.declared.path.Stage.{Stage}
 use Rattle.text_model.specs.declared.path.Stage.TheVariants as stage
 use Rattle.text_model.specs.Readings.{asked_line, is_word, line_at, line_read, live_line, opened_line, read_def, room_line, with_def}
-use Rattle.schedule_text.specs.Takes.{bytes_of}
+use Rattle.schema_reader.specs.Words.{bytes_of}
 
 pub room_line_other : (r : Reader) (ws : List (Bor (List ℕ))) → length ws ≢ 10 → room_line r (bytes_of ws) ≡ None
 room_line_other r [] h10 = refl

@@ -1,13 +1,12 @@
 -- A text, line by line.
-use Rattle.std.proofs.Common.{◌≡◌, ℕ, suc, ◌+◌, ◌-◌, ◌<◌, ◌==◌, Bool, true, false, not, cond, ltb, List, [], ◌∷◌, length, take, drop, get_or, Some, None, Result, Err, refl, sym, ap, ◌∙◌, add-one, arith}
+use Rattle.std.proofs.Common.{◌≡◌, ℕ, suc, ◌+◌, ◌-◌, ◌<◌, List, [], ◌∷◌, length, take, drop, get_or, Some, None, Result, Err, refl, sym, ap, ◌∙◌, add-one, arith}
 use Rattle.std.specs.Prelude.{position}
-use Rattle.std.specs.List.{fold, onto_first, position_or_len}
-use Rattle.std.proofs.lemmas.Bool.{ltb-true, ltb-false}
-use Rattle.std.proofs.lemmas.List.Sums.{prefix_len-le-length}
-use Rattle.std.proofs.lemmas.List.Splits.{slice_split_first, slice_split-cons_no, length-slice_split}
+use Rattle.std.specs.List.{fold}
+use Rattle.std.proofs.lemmas.List.Splits.{length-slice_split}
 use Rattle.text_model.specs.declared.path.FirstPath.{FirstPath}
 use Rattle.text_model.specs.declared.path.Reader.{Reader}
 use Rattle.text_model.specs.declared.path.PathWord.{PathWord}
+use Rattle.text_model.proofs.FirstLine.{is_lf, pieces_at, pieces_without}
 use Rattle.text_model.specs.Readings.{Progress, after_line, finished, line_read, line_taken, pieces_of, word_at, words_of}
 use Rattle.schedule_text.specs.Takes.{progress}
 
@@ -40,23 +39,6 @@ read_on_fault : (r : Reader) (n : ℕ) (f : ℕ × PathWord) (ls : List (List �
 read_on_fault r n f ls =
     ap (λ p. finished p (get_or ls (length ls - 1) [])) (fold_fault r n f (take (length ls - 1) ls)) ∙ finished_fault r n f (get_or ls (length ls - 1) [])
 
--- where the first LF of a text is
-abbrev is_lf : ℕ → Bool
-is_lf b = b == 10
-
-position_some : (xs : List ℕ) (i : ℕ) → Some i ≡ position is_lf xs → (position_or_len is_lf xs ≡ i) × (i < length xs)
-position_some xs i e =
-    let m = position_or_len is_lf xs in
-    let go : (b : Bool) → ltb m (length xs) ≡ b → Some i ≡ cond b (Some m) None → (m ≡ i) × (m < length xs)
-    = elim [ true ↦ λ h k. (cc, ltb-true m (length xs) h) | false ↦ λ h k. absurd (cc) ] in
-    let p = go (ltb m (length xs)) refl e in
-    (p.0, omega (arith, p.0, p.1))
-
-pieces_at : (xs : List ℕ) (i : ℕ) → Some i ≡ position is_lf xs → pieces_of xs ≡ take i xs ∷ pieces_of (drop (i + 1) xs)
-pieces_at xs i e =
-    let p = position_some xs i e in
-    slice_split_first is_lf xs 0 (omega (arith, p.0, p.1)) ∙ ap (λ k. take k xs ∷ pieces_of (drop (k + 1) xs)) p.0
-
 read_rest_line : (r : Reader) (n i : ℕ) (xs : List ℕ) → Some i ≡ position is_lf xs → read_rest (progress r n) xs ≡ read_rest (after_line (progress r n) (line_read r (words_of (take i xs)))) (drop (i + 1) xs)
 read_rest_line r n i xs e =
     ap (read_on (progress r n)) (pieces_at xs i e)
@@ -76,26 +58,5 @@ read_rest_refused r n i xs e h =
     ∙ (ap (λ o. read_rest (after_line (progress r n) o) rest) h
     ∙ (read_on_fault r (suc n) (suc n, word_at r.stage) (pieces_of rest) ∙ ap (λ k. Err (k, word_at r.stage)) (sym (add-one n))))
 
--- a text without LF
-one_piece : (xs : List ℕ) → position_or_len is_lf xs ≡ length xs → pieces_of xs ≡ xs ∷ []
-one_piece [] h = refl
-one_piece (x ∷ xs) h =
-    let go : (b : Bool) → is_lf x ≡ b → cond (not b) (1 + position_or_len is_lf xs) 0 ≡ suc (length xs) → pieces_of (x ∷ xs) ≡ (x ∷ xs) ∷ []
-    = elim [
-      | true ↦ λ e k. absurd (omega (arith, k))
-      | false ↦ λ e k. slice_split-cons_no is_lf x xs e ∙ ap (onto_first x) (one_piece xs (omega (arith, k)))
-    ] in
-    go (is_lf x) refl h
-
-position_none : (xs : List ℕ) → None ≡ position is_lf xs → position_or_len is_lf xs ≡ length xs
-position_none xs e =
-    let m = position_or_len is_lf xs in
-    let go : (b : Bool) → ltb m (length xs) ≡ b → None ≡ cond b (Some m) None → m ≡ length xs
-    = elim [
-      | true ↦ λ h k. absurd (cc)
-      | false ↦ λ h k. omega (arith, ltb-false m (length xs) h, prefix_len-le-length (λ b. not (is_lf b)) xs)
-    ] in
-    go (ltb m (length xs)) refl e
-
 pub read_rest_last : (p : Progress) (xs : List ℕ) → None ≡ position is_lf xs → read_rest p xs ≡ finished p xs
-read_rest_last p xs e = ap (read_on p) (one_piece xs (position_none xs e))
+read_rest_last p xs e = ap (read_on p) (pieces_without xs e)

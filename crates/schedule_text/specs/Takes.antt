@@ -1,12 +1,7 @@
 -- What a line makes of what was read.
-use Rattle.std.specs.Prelude.{◌≡◌, ℕ, ◌<◌, Bool, true, false, List, length, map, Option, Some, None}
-use Rattle.std.specs.Borrow.{Bor}
+use Rattle.std.specs.Prelude.{◌≡◌, ℕ, ◌<◌, Bool, true, false, length, Option, Some, None}
 use Rattle.text_model.specs.declared.path.Reader.{Reader}
 use Rattle.text_model.specs.Readings.{Progress}
-
--- the words, by their bytes
-abbrev pub bytes_of : List (Bor (List ℕ)) → List (List ℕ)
-bytes_of words = map (λ w. w.now) words
 
 -- the class has fewer fields than a row may have
 abbrev pub HasFewFields : Reader → Type 0

@@ -1,47 +1,8 @@
-//! Decimals of words.
-ghost use Rattle.std.specs.Prelude.{◌≡◌, ◌<◌, ◌≤◌, ◌^◌, IfSome};
-ghost use Rattle.text_model.specs.Decimals.{decimal_below, decimal_within, signed_within};
-ghost use Rattle.schedule_text.specs.Numbers.{digits_below, more_digit};
+//! Decimals of words, within bounds and with a sign.
+ghost use Rattle.std.specs.Prelude.{◌≡◌, ◌≤◌, ◌^◌, IfSome};
+ghost use Rattle.text_model.specs.Decimals.{decimal_within, signed_within};
 
-/// A number with one digit more behind it, where it is a digit and the number is below 2^64.
-fn with_digit(number: u64, digit: u8) -> Option<u64>
-    ensures { result ≡ more_digit (2 ^ 64) number digit }
-{
-    if !digit.is_ascii_digit() {
-        return None;
-    }
-    number.checked_mul(10)?.checked_add(u64::from(digit - b'0'))
-}
-
-/// The number that these digits stand for, where it is below 2^64 and all of them are digits.
-#[tactic(auto, using(crate::proofs::Digits::digits_on_more))]
-fn read_digits(digits: &[u8]) -> Option<u64>
-    ensures { result ≡ digits_below (2 ^ 64) digits.now }
-{
-    let mut number = 0;
-    for digit in digits {
-        number = with_digit(number, *digit)?;
-    }
-    Some(number)
-}
-
-/// The number that a word is the decimal of, with no leading zero.
-pub fn read_decimal(word: &[u8]) -> Option<u64>
-    ensures { result ≡ decimal_below (2 ^ 64) word.now }
-{
-    match word {
-        [] | [b'0', _, ..] => None,
-        _ => read_digits(word),
-    }
-}
-
-/// The number below a limit that a word is the decimal of.
-pub fn read_below(word: &[u8], limit: u64) -> Option<u64>
-    ensures value { result ≡ decimal_below limit word.now }
-    ensures bound { IfSome result (λ n. n < limit) }
-{
-    read_decimal(word).filter(|number| *number < limit)
-}
+use schema_reader::decimal::read_decimal;
 
 /// The number from one to another that a word is the decimal of.
 pub fn read_within(word: &[u8], low: u64, high: u64) -> Option<u64>

@@ -4,14 +4,18 @@ ghost use Rattle.std.specs.Option.{option_map};
 ghost use Rattle.text_model.specs.Decimals.{decimal_within};
 ghost use Rattle.text_model.specs.Marks.{is_room_name};
 ghost use Rattle.text_model.specs.Readings.{ask_line, asked_line, class_line, events_line, field_line, frame_line, is_word, later_line, line_read, live_line, moment_line, open_line, opened_line, process_line, put_line, read_def, room_line, root_line, tick_line, with_def, words_of};
-ghost use Rattle.schedule_text.specs.Takes.{HasFewFields, Takes, bytes_of};
+ghost use Rattle.schema_reader.specs.Words.{bytes_of};
+ghost use Rattle.schedule_text.specs.Takes.{HasFewFields, Takes};
 
-use crate::decimal::{read_below, read_decimal, read_signed};
-use crate::names::{is_class_name, is_field_name, is_room_name, is_word, read_id};
+use crate::decimal::read_signed;
+use crate::names::{is_room_name, read_id};
 use crate::reader::{add_item, has_name, is_join_target, is_opening_target, name_text, read_def};
 use lists::Memory;
 use schema_model::ConnNum;
-use std::alloc::{AllocError, Global};
+use schema_reader::decimal::{read_below, read_decimal};
+use schema_reader::line::first_words;
+use schema_reader::names::{is_class_name, is_field_name, is_word};
+use std::alloc::Global;
 use text_model::{Item, Reader, Stage};
 
 /// `class NAME`
@@ -428,15 +432,6 @@ fn take_words(alloc: Global, reader: &mut Reader, words: &[&[u8]]) -> Result<boo
 /// How many words of a line are looked at: a form has ten at most, so an eleventh tells that a line is of none.
 const MOST_WORDS: usize = 11;
 
-/// The first words of a line. However long it is, they take little memory.
-fn words_of(alloc: Global, line: &[u8]) -> Result<Vec<&[u8]>, AllocError>
-    ensures { IfOk result (λ words. bytes_of words.items ≡ take MOST_WORDS (words_of line.now)) }
-{
-    line.split(|byte| *byte == b' ')
-        .take(MOST_WORDS)
-        .collect(alloc)
-}
-
 /// Takes a line, where it is the next one of the form; otherwise nothing changes.
 #[tactic(auto, using(crate::proofs::Forms::line_read_take))]
 pub fn take_line(alloc: Global, reader: &mut Reader, line: &[u8]) -> Result<bool, Memory>
@@ -444,6 +439,6 @@ pub fn take_line(alloc: Global, reader: &mut Reader, line: &[u8]) -> Result<bool
     ensures { IfOk result
         (λ taken. Takes taken reader.old reader.new (line_read reader.old (words_of line.now))) }
 {
-    let words = words_of(alloc, line)?;
+    let words = first_words(alloc, line, MOST_WORDS)?;
     take_words(alloc, reader, &words)
 }

@@ -6,15 +6,9 @@ ghost use Rattle.schedule_text.specs.Takes.{progress};
 
 use crate::lines::take_line;
 use crate::reader::blank_reader;
+use schema_reader::line::line_len;
 use std::alloc::Global;
 use text_model::{FirstPath, PathFault, PathWord, Reader, Stage};
-
-/// How many bytes of a text stand before its first LF, where it has one.
-fn line_len(text: &[u8]) -> Option<usize>
-    ensures { result ≡ position (λ b. b == 10) text.now }
-{
-    text.iter().position(|byte| *byte == b'\n')
-}
 
 /// The word for a line that can't be taken.
 fn word_at(stage: Stage) -> PathWord

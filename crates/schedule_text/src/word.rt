@@ -6,6 +6,7 @@ ghost use Rattle.text_model.specs.Decimals.{signed_text};
 ghost use Rattle.text_model.specs.Marks.{escape_digit, escaped, hex_word, line, quoted, spaced};
 ghost use Rattle.schedule_text.specs.Words.{word_text, word_texts};
 
+use itoa::Buffer;
 use lists::Memory;
 
 /// A word of a line, by its form.
@@ -23,27 +24,24 @@ pub enum Word<'a> {
     Quoted(&'a [u8]),
 }
 
-/// Appends a decimal. An `Err` may leave some of its digits.
+/// Appends a decimal.
 fn append_decimal(out: &mut Vec<u8>, number: u64) -> Result<(), Memory>
     ensures ok { OnOk result (out.new.items ≡ out.old.items ++ decimal number) }
-    ensures err { OnErr result (StartsWith out.new.items out.old.items) }
+    ensures err { OnErr result (out.new.items ≡ out.old.items) }
 {
-    if number >= 10 {
-        append_decimal(out, number / 10)?;
-    }
-    out.push(b'0' + (number % 10) as u8)?;
+    let mut buffer = Buffer::new();
+    out.extend_from_slice(buffer.format(number).as_bytes())?;
     Ok(())
 }
 
-/// Appends a decimal, with `-` before it where the number is below 0. An `Err` may leave a part of it.
+/// Appends a decimal, with `-` before it where the number is below 0.
 fn append_signed(out: &mut Vec<u8>, number: i32) -> Result<(), Memory>
     ensures ok { OnOk result (out.new.items ≡ out.old.items ++ signed_text number) }
-    ensures err { OnErr result (StartsWith out.new.items out.old.items) }
+    ensures err { OnErr result (out.new.items ≡ out.old.items) }
 {
-    if number < 0 {
-        out.push(b'-')?;
-    }
-    append_decimal(out, u64::from(number.unsigned_abs()))
+    let mut buffer = Buffer::new();
+    out.extend_from_slice(buffer.format(number).as_bytes())?;
+    Ok(())
 }
 
 /// Appends bytes in hex, by way of a text of its own.

@@ -3,4 +3,5 @@ pub mod FieldCounts
 pub mod FieldTables
 pub mod KindLines
 pub mod NumberAgain
+pub mod ScalarAgain
 pub mod ScalarRows

@@ -128,7 +128,7 @@ by_chain P false true c w x y z p q r s = q refl
 by_chain P false false true w x y z p q r s = r refl
 by_chain P false false false w x y z p q r s = s
 
-ltb_below : (n k : ℕ) → ltb n k ≡ true → n < k
+pub ltb_below : (n k : ℕ) → ltb n k ≡ true → n < k
 ltb_below n k h = grind (arith, nat_tests)
 
 -- what was written as a `number` is read again, whatever stands before and behind it

@@ -1,5 +1,6 @@
 -- Which values fit a kind of scalar, and the widths of the kinds.
 use Rattle.std.specs.Prelude.{ℕ, ◌^◌, Bool, true, false, length, ℤ, pos, negsuc, nat_lt}
+use Rattle.std.specs.Str.{is_utf8}
 use Rattle.schema_model.specs.declared.scalar.ScalarKind.{ScalarKind}
 use Rattle.schema_model.specs.declared.scalar.ScalarKind.TheVariants as kind
 use Rattle.schema_model.specs.declared.value.Value.{Value}
@@ -42,3 +43,8 @@ fits k (value.Whole z) = in_range k z
 fits kind.Str (value.Str t) = nat_lt (length t) (2 ^ 32)
 fits kind.Bool (value.Truth b) = true
 fits k v = false
+
+-- a text is UTF-8
+abbrev pub is_worded : Value → Bool
+is_worded (value.Str t) = is_utf8 t
+is_worded v = true

@@ -2,3 +2,4 @@ pub mod Classes
 pub mod Fits
 pub mod Reading
 pub mod Spelling
+pub mod Values

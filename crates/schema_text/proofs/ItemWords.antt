@@ -2,13 +2,13 @@
 use Rattle.std.proofs.Common.{◌≡◌, ℕ, Bool, true, false, ◌||◌, cond, List, [], ◌∷◌, Option, Some, None, is_some, refl, sym, ap, ◌∙◌, bytes_eq}
 use Rattle.std.specs.List.{find}
 use Rattle.std.proofs.lemmas.Bool.{and_parts, not-true}
+use Rattle.lists.proofs.SameBytes.{same_bytes}
 use Rattle.schema_model.specs.declared.scalar.ScalarKind.{ScalarKind}
 use Rattle.schema_model.specs.declared.scalar.ScalarKind.TheVariants as kind
-use Rattle.text_model.specs.Marks.{is_class_name, is_field_name, is_one_of, shape_words}
+use Rattle.text_model.specs.Marks.{all_kinds, scalar_word, is_class_name, is_field_name, is_one_of, shape_words}
 use Rattle.text_model.proofs.Spaced.{is_plain}
 use Rattle.text_model.proofs.PlainLines.{class_name_plain}
-use Rattle.schema_text.specs.SchemaLines.{kind_word, all_kinds, kind_of_word, is_item_word}
-use Rattle.schema_text.proofs.NamesFound.{name_is}
+use Rattle.schema_text.specs.SchemaLines.{kind_of_word, is_item_word}
 
 -- ---- the words of kinds
 
@@ -24,10 +24,10 @@ find_passes p (y ∷ ys) x h = from (p y) refl (find_passes p ys x) h
     from false e rest k = rest k
 
 -- only a kind's word stands for it
-pub kind_named : (w : List ℕ) (k : ScalarKind) → kind_of_word w ≡ Some k → w ≡ kind_word k
-kind_named w k h = sym (name_is (kind_word k) w (find_passes (λ k. bytes_eq (kind_word k) w) all_kinds k h))
+pub kind_named : (w : List ℕ) (k : ScalarKind) → kind_of_word w ≡ Some k → w ≡ scalar_word k
+kind_named w k h = sym (same_bytes (scalar_word k) w (find_passes (λ k. bytes_eq (scalar_word k) w) all_kinds k h))
 
-pub kind_known : (k : ScalarKind) → kind_of_word (kind_word k) ≡ Some k
+pub kind_known : (k : ScalarKind) → kind_of_word (scalar_word k) ≡ Some k
 kind_known kind.Number = refl
 kind_known kind.Str = refl
 kind_known kind.Bool = refl
@@ -38,7 +38,7 @@ kind_known kind.U16 = refl
 kind_known kind.I32 = refl
 kind_known kind.U32 = refl
 
-kind_no_shape : (k : ScalarKind) → is_one_of shape_words (kind_word k) ≡ false
+kind_no_shape : (k : ScalarKind) → is_one_of shape_words (scalar_word k) ≡ false
 kind_no_shape kind.Number = refl
 kind_no_shape kind.Str = refl
 kind_no_shape kind.Bool = refl
@@ -49,7 +49,7 @@ kind_no_shape kind.U16 = refl
 kind_no_shape kind.I32 = refl
 kind_no_shape kind.U32 = refl
 
-kind_plain : (k : ScalarKind) → is_plain (kind_word k) ≡ true
+kind_plain : (k : ScalarKind) → is_plain (scalar_word k) ≡ true
 kind_plain kind.Number = refl
 kind_plain kind.Str = refl
 kind_plain kind.Bool = refl
@@ -61,7 +61,7 @@ kind_plain kind.I32 = refl
 kind_plain kind.U32 = refl
 
 -- the words of items are those of kinds and the names of classes
-by_item : (w : List ℕ) (p : List ℕ → Bool) (b : Bool) → ((k : ScalarKind) → p (kind_word k) ≡ b) → (is_class_name w ≡ true → p w ≡ b)
+by_item : (w : List ℕ) (p : List ℕ → Bool) (b : Bool) → ((k : ScalarKind) → p (scalar_word k) ≡ b) → (is_class_name w ≡ true → p w ≡ b)
     → is_item_word w ≡ true → p w ≡ b
 by_item w p b kinds names h = from (kind_of_word w) refl h
   where

@@ -13,13 +13,13 @@ use Rattle.schema_model.specs.declared.class.Shape.TheVariants as shape
 use Rattle.schema_model.specs.declared.scalar.ScalarKind.{ScalarKind}
 use Rattle.schema_model.specs.declared.scalar.ScalarKind.TheVariants as kind
 use Rattle.state_model.specs.Sound.{keys_differ}
-use Rattle.text_model.specs.Marks.{is_class_name, is_field_name, is_one_of, kind_words}
+use Rattle.text_model.specs.Marks.{is_class_name, is_field_name, is_one_of, kind_words, scalar_word}
 use Rattle.schema_text.specs.declared.draft.Grouping.{Grouping}
 use Rattle.schema_text.specs.declared.draft.Grouping.TheVariants.{Alone, Mapped, Listed, Gathered}
 use Rattle.schema_text.specs.declared.draft.DraftField.{DraftField}
 use Rattle.schema_text.specs.declared.draft.DraftClass.{DraftClass}
 use Rattle.schema_text.specs.declared.draft.DraftRoot.{DraftRoot}
-use Rattle.schema_text.specs.SchemaLines.{kind_word, kind_of_word, is_item_word, class_name, item_word, grouping_of}
+use Rattle.schema_text.specs.SchemaLines.{kind_of_word, is_item_word, class_name, item_word, grouping_of}
 use Rattle.schema_text.specs.SchemaReading.{Draft, class_place, item_of_word, unknown_field, unknown_root, unknown_lines, shape_of, class_of}
 use Rattle.schema_text.proofs.NamesFound.{names_of, draft_name, placed_name, own_place}
 use Rattle.schema_text.proofs.ItemWords.{kind_named, kind_known}
@@ -145,7 +145,7 @@ known_word cs w names h = from (kind_of_word w) (class_place cs w) refl h
 
 -- ---- the word of an item
 
-kind_taken : (k : ScalarKind) → is_one_of kind_words (kind_word k) ≡ true
+kind_taken : (k : ScalarKind) → is_one_of kind_words (scalar_word k) ≡ true
 kind_taken kind.Number = refl
 kind_taken kind.Str = refl
 kind_taken kind.Bool = refl
@@ -171,7 +171,7 @@ pub item_again : (cs : List DraftClass) (classes : List Class) (i : Item) → ke
     → ((n : ℕ) → class_name classes n ≡ draft_name cs n) → ((n : ℕ) → n < length cs → is_class_name (draft_name cs n) ≡ true)
     → item_in_range (length cs) i ≡ true → item_of_word cs (item_word classes i) ≡ Some i
 item_again cs classes (item.Scalar k) d same names h =
-    ap (λ o. option_map_or (λ k. Some (item.Scalar k)) o (option_map item.Class (class_place cs (kind_word k)))) (kind_known k)
+    ap (λ o. option_map_or (λ k. Some (item.Scalar k)) o (option_map item.Class (class_place cs (scalar_word k)))) (kind_known k)
 item_again cs classes (item.Class n) d same names h =
     let low = ltb-true n (length cs) h in
     ap (item_of_word cs) (same n)

@@ -14,3 +14,4 @@ pub mod DraftSchema
 pub mod DraftOf
 pub mod LinesRead
 pub mod SchemaLaw
+pub mod LinesFew

@@ -2,6 +2,7 @@
 use Rattle.std.proofs.Common.{◌≡◌, ℕ, Bool, true, false, ◌&&◌, cond, List, [], ◌∷◌, Option, Some, None, refl, sym, ap, ◌∙◌, bytes_eq, codes}
 use Rattle.std.specs.Option.{option_map}
 use Rattle.std.proofs.lemmas.Bool.{and_parts, and_from, or_parts, cond-true, cond-false}
+use Rattle.lists.proofs.SameBytes.{same_bytes}
 use Rattle.text_model.specs.Marks.{is_class_name, is_field_name}
 use Rattle.text_model.specs.Readings.{is_word}
 use Rattle.text_model.proofs.DecimalLaw.{chosen}
@@ -9,7 +10,6 @@ use Rattle.schema_text.specs.declared.draft.Grouping.{Grouping}
 use Rattle.schema_text.specs.declared.draft.Grouping.TheVariants.{Alone, Mapped, Listed, Gathered}
 use Rattle.schema_text.specs.SchemaLines.{is_item_word, is_tag_word, Tagging, Untagged, Default, Given, SchemaLine, ClassLine, FieldLine, RootLine, grouped, tagging_words, line_words}
 use Rattle.schema_text.specs.SchemaReading.{class_form, tagging_form, item_form, shape_form, field_form, root_form, line_form}
-use Rattle.schema_text.proofs.NamesFound.{name_is}
 use Rattle.schema_text.proofs.ItemWords.{item_no_shape}
 
 -- ---- lines that are well formed
@@ -51,7 +51,7 @@ class_formed (name ∷ colon ∷ parent ∷ []) f h =
     let two = and_parts (is_class_name name && is_word (codes ":") colon) (is_class_name parent) c.0 in
     let one = and_parts (is_class_name name) (is_word (codes ":") colon) two.0 in
     record {
-      words = ap (λ w. codes "class" ∷ name ∷ w ∷ parent ∷ []) (name_is colon (codes ":") one.1) ∙ ap line_words c.1;
+      words = ap (λ w. codes "class" ∷ name ∷ w ∷ parent ∷ []) (same_bytes colon (codes ":") one.1) ∙ ap line_words c.1;
       form = ap is_line_form (sym c.1) ∙ and_from (is_class_name name) (is_class_name parent) one.0 two.1;
     }
 class_formed (name ∷ colon ∷ parent ∷ w ∷ ws) f h = absurd (cc)
@@ -69,11 +69,11 @@ tagging_formed [] t h =
     (ap tagging_words e, ap is_tagging (sym e))
 tagging_formed (view ∷ []) t h =
     let c = chosen (is_word (codes "view") view) Default t h in
-    (ap (λ w. w ∷ []) (name_is view (codes "view") c.0) ∙ ap tagging_words c.1, ap is_tagging (sym c.1))
+    (ap (λ w. w ∷ []) (same_bytes view (codes "view") c.0) ∙ ap tagging_words c.1, ap is_tagging (sym c.1))
 tagging_formed (view ∷ tag ∷ []) t h =
     let c = chosen (is_word (codes "view") view && is_tag_word tag) (Given tag) t h in
     let two = and_parts (is_word (codes "view") view) (is_tag_word tag) c.0 in
-    (ap (λ w. w ∷ tag ∷ []) (name_is view (codes "view") two.0) ∙ ap tagging_words c.1, ap is_tagging (sym c.1) ∙ two.1)
+    (ap (λ w. w ∷ tag ∷ []) (same_bytes view (codes "view") two.0) ∙ ap tagging_words c.1, ap is_tagging (sym c.1) ∙ two.1)
 tagging_formed (view ∷ tag ∷ w ∷ ws) t h = absurd (cc)
 
 item_formed : (name : List ℕ) (g : Grouping) (ws : List (List ℕ)) (f : SchemaLine) → is_field_name name ≡ true → item_form name g ws ≡ Some f
@@ -94,7 +94,7 @@ shape_formed name [] f n h = absurd (cc)
 shape_formed name (w ∷ ws) f n h = from (is_word (codes "map") w) (is_word (codes "array") w) (is_word (codes "set") w) refl refl refl h
   where
     at_word : (v : List ℕ) → bytes_eq w v ≡ true → IsFormed (codes "field" ∷ name ∷ v ∷ ws) f → IsFormed (codes "field" ∷ name ∷ w ∷ ws) f
-    at_word v e r = record { words = ap (λ x. codes "field" ∷ name ∷ x ∷ ws) (name_is w v e) ∙ r.words; form = r.form }
+    at_word v e r = record { words = ap (λ x. codes "field" ∷ name ∷ x ∷ ws) (same_bytes w v e) ∙ r.words; form = r.form }
 
     from : (m a s : Bool) → is_word (codes "map") w ≡ m → is_word (codes "array") w ≡ a → is_word (codes "set") w ≡ s
         → cond m (item_form name Mapped ws) (cond a (item_form name Listed ws) (cond s (item_form name Gathered ws) (item_form name Alone (w ∷ ws)))) ≡ Some f
@@ -116,7 +116,7 @@ line_formed [] f h = absurd (cc)
 line_formed (w ∷ ws) f h = from (is_word (codes "class") w) (is_word (codes "field") w) (is_word (codes "root") w) refl refl refl h
   where
     at_word : (v : List ℕ) → bytes_eq w v ≡ true → IsFormed (v ∷ ws) f → IsFormed (w ∷ ws) f
-    at_word v e r = record { words = ap (λ x. x ∷ ws) (name_is w v e) ∙ r.words; form = r.form }
+    at_word v e r = record { words = ap (λ x. x ∷ ws) (same_bytes w v e) ∙ r.words; form = r.form }
 
     from : (c d r : Bool) → is_word (codes "class") w ≡ c → is_word (codes "field") w ≡ d → is_word (codes "root") w ≡ r
         → cond c (class_form ws) (cond d (field_form ws) (cond r (root_form ws) None)) ≡ Some f → IsFormed (w ∷ ws) f

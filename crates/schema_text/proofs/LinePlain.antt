@@ -1,5 +1,5 @@
 -- The words of a line that is well formed can stand on it.
-use Rattle.std.proofs.Common.{◌≡◌, ℕ, Bool, true, false, not, ◌&&◌, cond, List, [], ◌∷◌, Some, None, refl, sym, ap, ◌∙◌, arith, bytes_eq, eqb, eqb-true, leb, le-leb, leb-true, codes}
+use Rattle.std.proofs.Common.{◌≡◌, ℕ, Bool, true, false, not, ◌&&◌, cond, List, [], ◌∷◌, Some, None, refl, sym, ap, ◌∙◌, bytes_eq, eqb, eqb-true, leb, codes}
 use Rattle.std.specs.List.{list_all}
 use Rattle.std.specs.Str.{all_ascii_digits}
 use Rattle.std.specs.Char.{is_ascii_digit}
@@ -7,19 +7,13 @@ use Rattle.std.proofs.lemmas.Bool.{and_parts, and_from, true≢false, false_from
 use Rattle.text_model.specs.Marks.{is_class_name, is_field_name}
 use Rattle.text_model.specs.Decimals.{is_decimal}
 use Rattle.text_model.proofs.Spaced.{is_plain, is_line}
+use Rattle.text_model.proofs.DecimalLaw.{digits_plain}
 use Rattle.text_model.proofs.PlainLines.{class_name_plain, field_name_plain}
 use Rattle.schema_text.specs.declared.draft.Grouping.{Grouping}
 use Rattle.schema_text.specs.declared.draft.Grouping.TheVariants.{Alone, Mapped, Listed, Gathered}
 use Rattle.schema_text.specs.SchemaLines.{is_item_word, is_tag_word, Tagging, Untagged, Default, Given, SchemaLine, ClassLine, FieldLine, RootLine, grouped, tagging_words, line_words}
 use Rattle.schema_text.proofs.ItemWords.{item_plain}
 use Rattle.schema_text.proofs.LineForms.{is_tagging, is_line_form}
-
-digits_plain : (w : List ℕ) → all_ascii_digits w ≡ true → is_plain w ≡ true
-digits_plain [] h = refl
-digits_plain (c ∷ cs) h =
-    let parts = and_parts (is_ascii_digit c) (all_ascii_digits cs) h in
-    let low = (and_parts (leb 48 c) (leb c 57) parts.0).0 in
-    and_from (leb 33 c) (is_plain cs) (le-leb 33 c (omega (arith, leb-true 48 c low))) (digits_plain cs parts.1)
 
 is_digits : (w : List ℕ) → is_decimal w ≡ true → all_ascii_digits w ≡ true
 is_digits [] h = absurd (true≢false (sym h))

@@ -2,25 +2,11 @@
 use Rattle.std.proofs.Common.{◌≡◌, ℕ, zero, suc, ◌+◌, ◌<◌, Bool, true, false, ◌||◌, cond, List, [], ◌∷◌, length, map, Some, is_some, refl, sym, ap, ◌∙◌, arith, bytes_eq, slice_get}
 use Rattle.std.specs.List.{list_any}
 use Rattle.std.specs.Option.{option_map_or}
-use Rattle.std.proofs.lemmas.Slice.Eq.{bytes_eq-Decides}
 use Rattle.std.proofs.lemmas.Bool.{and_parts, or_parts, not-true, cond-false, cond-true}
-use Rattle.std.proofs.lemmas.Bool.Decides.{same_from_decides}
+use Rattle.lists.proofs.SameBytes.{same_bytes, bytes_eq_self, bytes_eq_sym}
 use Rattle.state_model.specs.Sound.{keys_differ}
 use Rattle.schema_text.specs.declared.draft.DraftClass.{DraftClass}
 use Rattle.schema_text.specs.SchemaReading.{place_from}
-
--- ---- two names
-
-pub name_is : (a b : List ℕ) → bytes_eq a b ≡ true → a ≡ b
-name_is a b h = (bytes_eq-Decides a b).0 h
-
-pub is_name : (a : List ℕ) → bytes_eq a a ≡ true
-is_name a = (bytes_eq-Decides a a).1 refl
-
-pub names_swap : (a b : List ℕ) → bytes_eq a b ≡ bytes_eq b a
-names_swap a b =
-    let d = bytes_eq-Decides b a in
-    same_from_decides (bytes_eq a b) (bytes_eq b a) (bytes_eq-Decides a b) (λ e. sym (d.0 e), λ e. d.1 (sym e))
 
 -- ---- the names of classes
 
@@ -38,8 +24,8 @@ is_placed n (c ∷ cs) name = from (bytes_eq c.name name) refl (is_placed (suc n
   where
     from : (b : Bool) → bytes_eq c.name name ≡ b → is_some (place_from (suc n) cs name) ≡ list_any (bytes_eq name) (names_of cs)
         → is_some (cond b (Some n) (place_from (suc n) cs name)) ≡ (bytes_eq name c.name || list_any (bytes_eq name) (names_of cs))
-    from true e rest = sym (ap (λ b. b || list_any (bytes_eq name) (names_of cs)) (names_swap name c.name ∙ e))
-    from false e rest = rest ∙ sym (ap (λ b. b || list_any (bytes_eq name) (names_of cs)) (names_swap name c.name ∙ e))
+    from true e rest = sym (ap (λ b. b || list_any (bytes_eq name) (names_of cs)) (bytes_eq_sym name c.name ∙ e))
+    from false e rest = rest ∙ sym (ap (λ b. b || list_any (bytes_eq name) (names_of cs)) (bytes_eq_sym name c.name ∙ e))
 
 -- the class at a name's place has this name
 pub placed_name : (n : ℕ) (cs : List DraftClass) (name : List ℕ) (i : ℕ) → place_from n cs name ≡ Some i
@@ -52,7 +38,7 @@ placed_name n (c ∷ cs) name i h = from (bytes_eq c.name name) refl (placed_nam
         → cond b (Some n) (place_from (suc n) cs name) ≡ Some i → (k : ℕ) × (i ≡ n + k) × (k < length (c ∷ cs)) × (draft_name (c ∷ cs) k ≡ name)
     from true e rest p =
         let here : n ≡ i = cc in
-        (0, omega arith, omega arith, name_is c.name name e)
+        (0, omega arith, omega arith, same_bytes c.name name e)
     from false e rest p =
         let r = rest p in
         (suc r.0, omega (arith, r.1), omega (arith, r.2), r.3)
@@ -69,7 +55,7 @@ pub own_place : (n : ℕ) (cs : List DraftClass) (k : ℕ) → keys_differ (name
 own_place n [] k d l = absurd (omega arith)
 own_place n (c ∷ cs) zero d l =
     let e : n ≡ n + 0 = omega arith in
-    cond-true (bytes_eq c.name c.name) (Some n) (place_from (suc n) cs c.name) (is_name c.name) ∙ ap Some e
+    cond-true (bytes_eq c.name c.name) (Some n) (place_from (suc n) cs c.name) (bytes_eq_self c.name) ∙ ap Some e
 own_place n (c ∷ cs) (suc k) d l =
     let parts = and_parts _ (keys_differ (names_of cs)) d in
     let other = none_named (bytes_eq c.name) cs k (not-true _ parts.0) (omega arith) in

@@ -12,34 +12,17 @@ use Rattle.schema_model.specs.declared.class.Item.TheVariants as item
 use Rattle.schema_model.specs.declared.class.Shape.{Shape}
 use Rattle.schema_model.specs.declared.class.Shape.TheVariants as shape
 use Rattle.schema_model.specs.declared.scalar.ScalarKind.{ScalarKind}
-use Rattle.schema_model.specs.declared.scalar.ScalarKind.TheVariants as kind
 use Rattle.state_model.specs.Sound.{keys_differ}
 use Rattle.schema_text.specs.declared.draft.Grouping.{Grouping}
 use Rattle.schema_text.specs.declared.draft.Grouping.TheVariants.{Alone, Mapped, Listed, Gathered}
-use Rattle.text_model.specs.Marks.{is_class_name, is_field_name, is_one_of, lines}
+use Rattle.text_model.specs.Marks.{all_kinds, is_class_name, is_field_name, is_one_of, lines, scalar_word}
 use Rattle.text_model.specs.Decimals.{is_decimal}
 
 -- ---- words
 
--- the word of a kind
-abbrev pub kind_word : ScalarKind → List ℕ
-kind_word kind.Number = codes "number"
-kind_word kind.Str = codes "string"
-kind_word kind.Bool = codes "boolean"
-kind_word kind.I8 = codes "int8"
-kind_word kind.U8 = codes "uint8"
-kind_word kind.I16 = codes "int16"
-kind_word kind.U16 = codes "uint16"
-kind_word kind.I32 = codes "int32"
-kind_word kind.U32 = codes "uint32"
-
--- all kinds
-abbrev pub all_kinds : List ScalarKind
-all_kinds = kind.Number ∷ kind.Str ∷ kind.Bool ∷ kind.I8 ∷ kind.U8 ∷ kind.I16 ∷ kind.U16 ∷ kind.I32 ∷ kind.U32 ∷ []
-
 -- the kind of a word
 abbrev pub kind_of_word : List ℕ → Option ScalarKind
-kind_of_word w = find (λ k. bytes_eq (kind_word k) w) all_kinds
+kind_of_word w = find (λ k. bytes_eq (scalar_word k) w) all_kinds
 
 -- the words of kinds that are refused by name
 abbrev pub fractional_words : List (List ℕ)
@@ -96,7 +79,7 @@ abbrev pub class_name : List Class → ℕ → List ℕ
 class_name classes n = option_map_or (λ (c : Class). c.name) (slice_get classes n) []
 
 abbrev pub item_word : List Class → Item → List ℕ
-item_word classes (item.Scalar k) = kind_word k
+item_word classes (item.Scalar k) = scalar_word k
 item_word classes (item.Class n) = class_name classes n
 
 abbrev pub grouping_of : Shape → Grouping

@@ -7,7 +7,6 @@ pub mod row;
 pub mod rows;
 #[cfg(test)]
 mod tests;
-pub mod value;
 
 pub use command::{Command, TableFault};
 pub use place::{Wanted, field_wants, is_filtered, item_wants};
@@ -16,4 +15,3 @@ pub use row::{
     copy_field_values, copy_map_items, copy_set_items, copy_values,
 };
 pub use rows::Rows;
-pub use value::same_value;

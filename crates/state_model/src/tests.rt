@@ -1,4 +1,4 @@
-use crate::{FieldValue, MapItem, Row, RowEntry, Rows, SetItem, same_value};
+use crate::{FieldValue, MapItem, Row, RowEntry, Rows, SetItem};
 use lists::{Memory, Rising, Seq, Text};
 use schema_model::{Class, Home, RefNum, Schema, TypeNum, Value};
 use std::alloc::Global;
@@ -78,7 +78,7 @@ fn makes_reads_and_copies_rows(rt: HostRuntime) -> Result<(), Fail> {
     assert!(rt; is_copied(alloc, map(alloc)?)?);
     assert!(rt; is_copied(alloc, array(alloc)?)?);
     assert!(rt; is_copied(alloc, set(alloc)?)?);
-    assert!(rt; same_value(&Value::Whole(-1), &Value::Whole(-1)));
-    assert!(rt; !same_value(&Value::Whole(1), &Value::Truth(true)));
+    assert!(rt; Value::Whole(-1).same(&Value::Whole(-1)));
+    assert!(rt; !Value::Whole(1).same(&Value::Truth(true)));
     Ok(())
 }

@@ -135,7 +135,7 @@ read_signed half (pos n) top h =
 
 -- ---- digits can stand on a line
 
-digits_plain : (w : List ℕ) → all_ascii_digits w ≡ true → is_plain w ≡ true
+pub digits_plain : (w : List ℕ) → all_ascii_digits w ≡ true → is_plain w ≡ true
 digits_plain [] h = refl
 digits_plain (c ∷ cs) h =
     let parts = and_parts (is_ascii_digit c) (all_ascii_digits cs) h in

@@ -3,6 +3,7 @@ use Rattle.std.proofs.Common.{◌≡◌, ℕ, ◌^◌, ◌≤◌, true, not, ◌
 use Rattle.std.specs.List.{list_all}
 use Rattle.std.specs.Fmt.{decimal}
 use Rattle.std.proofs.lemmas.Bool.{and_parts, and_from, true≢false}
+use Rattle.lists.proofs.SameBytes.{bytes_eq_self}
 use Rattle.schema_model.specs.Fits.{in_signed}
 use Rattle.hub_model.specs.Replies.{join_or_create_target, opening_target}
 use Rattle.text_model.specs.declared.path.Item.{Item}
@@ -17,7 +18,6 @@ use Rattle.text_model.specs.Paths.{item_words, is_turn, is_later_turn}
 use Rattle.text_model.specs.Readings.{line_read, with_item, with_open, with_ask, moment_line, tick_line, put_line, read_put, ask_line, asked_line, opened_line, live_line}
 use Rattle.text_model.proofs.DecimalLaw.{read_decimal, read_signed}
 use Rattle.text_model.proofs.Runs.{reader_at, more, more_nil, more_cons, run}
-use Rattle.text_model.proofs.TurnLines.{is_its_word}
 use Rattle.text_model.proofs.EventLines.{with_ids}
 use Rattle.text_model.proofs.EventsRead.{event_lines}
 
@@ -27,14 +27,14 @@ moment_taken : (s : Stage) (p : FirstPath) (o ms : ℕ) → ltb ms (2 ^ 64) ≡ 
 moment_taken s p o ms h = ap (option_map (λ n. with_item s (At n) (reader_at s p o))) (read_decimal (2 ^ 64) ms (omega arith) (ltb-true ms (2 ^ 64) h))
 
 tick_taken : (s : Stage) (p : FirstPath) (o : ℕ) → tick_line (reader_at s p o) (codes "tick") p.room ≡ Some (reader_at s (more p (Tick ∷ [])) o)
-tick_taken s p o = ap (λ b. cond b (Some (with_item s Tick (reader_at s p o))) None) (is_its_word p.room)
+tick_taken s p o = ap (λ b. cond b (Some (with_item s Tick (reader_at s p o))) None) (bytes_eq_self p.room)
 
 put_taken : (s : Stage) (p : FirstPath) (o field : ℕ) (z : ℤ) → length p.fields ≤ 63 → is_turn (length p.fields) (Put field z) ≡ true → put_line (reader_at s p o) (codes "act") p.room (codes "put") (codes "0") (decimal field) (signed_text z) ≡ Some (reader_at s (more p (Put field z ∷ [])) o)
 put_taken s p o field z few h =
     let parts = and_parts (ltb field (length p.fields)) (in_signed (2 ^ 31) z) h in
     let f = read_decimal (length p.fields) field (omega arith) (ltb-true field (length p.fields) parts.0) in
     let v = read_signed (2 ^ 31) z (omega arith) parts.1 in
-    ap (λ b. cond (b && true && true) (option_map (λ i. with_item s i (reader_at s p o)) (read_put (decimal_below (length p.fields) (decimal field)) (signed_within (2 ^ 31) (signed_text z)))) None) (is_its_word p.room)
+    ap (λ b. cond (b && true && true) (option_map (λ i. with_item s i (reader_at s p o)) (read_put (decimal_below (length p.fields) (decimal field)) (signed_within (2 ^ 31) (signed_text z)))) None) (bytes_eq_self p.room)
     ∙ ap₂ (λ a b. option_map (λ i. with_item s i (reader_at s p o)) (read_put a b)) f v
 
 -- ---- behind the acknowledgement
@@ -87,7 +87,7 @@ asked_taken p o _ few h = absurd (true≢false (sym h))
 
 open_taken : (p : FirstPath) (o conn : ℕ) (fresh : List ℕ) → ltb conn (2 ^ 64) ≡ true → is_id fresh ≡ true → asked_line (reader_at stage.Asked p o) (item_words p (Open conn fresh)) ≡ Some (reader_at stage.Opened (more p (Open conn fresh ∷ [])) conn)
 open_taken p o conn fresh h k =
-    ap (λ b. cond b (option_map (λ n. with_open n fresh (reader_at stage.Asked p o)) (decimal_below (2 ^ 64) (decimal conn))) None) (and_from _ _ (is_its_word (opening_target p.process p.room p.session)) k)
+    ap (λ b. cond b (option_map (λ n. with_open n fresh (reader_at stage.Asked p o)) (decimal_below (2 ^ 64) (decimal conn))) None) (and_from _ _ (bytes_eq_self (opening_target p.process p.room p.session)) k)
     ∙ ap (option_map (λ n. with_open n fresh (reader_at stage.Asked p o))) (read_decimal (2 ^ 64) conn (omega arith) (ltb-true conn (2 ^ 64) h))
 
 -- the events from the opening on
@@ -107,7 +107,7 @@ run_asked (i ∷ is) opener fresh opened live p o few w low id h k =
 
 ask_taken : (p : FirstPath) (o conn : ℕ) (room session : List ℕ) → ltb conn (2 ^ 64) ≡ true → is_id room ≡ true → is_id session ≡ true → not (bytes_eq room session) ≡ true → ask_line (reader_at stage.Before p o) (item_words (with_ids p room session) (Ask conn)) ≡ Some (reader_at stage.Asked (more (with_ids p room session) (Ask conn ∷ [])) o)
 ask_taken p o conn room session h ir is apart =
-    ap (λ b. cond b (option_map (λ n. with_ask n room session (reader_at stage.Before p o)) (decimal_below (2 ^ 64) (decimal conn))) None) (and_from _ _ (and_from _ _ (and_from _ _ (and_from _ _ (is_its_word (join_or_create_target p.def.name)) (is_its_word (codes "{}"))) ir) is) apart)
+    ap (λ b. cond b (option_map (λ n. with_ask n room session (reader_at stage.Before p o)) (decimal_below (2 ^ 64) (decimal conn))) None) (and_from _ _ (and_from _ _ (and_from _ _ (and_from _ _ (bytes_eq_self (join_or_create_target p.def.name)) (bytes_eq_self (codes "{}"))) ir) is) apart)
     ∙ ap (option_map (λ n. with_ask n room session (reader_at stage.Before p o))) (read_decimal (2 ^ 64) conn (omega arith) (ltb-true conn (2 ^ 64) h))
 
 -- what the events are made of, and that they are of their forms

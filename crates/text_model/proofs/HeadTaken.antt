@@ -4,6 +4,7 @@ use Rattle.std.specs.List.{list_all, list_any}
 use Rattle.std.specs.Fmt.{decimal}
 use Rattle.std.proofs.lemmas.List.{nil_from_length}
 use Rattle.std.proofs.lemmas.Bool.{and_parts, and_from}
+use Rattle.lists.proofs.SameBytes.{bytes_eq_self}
 use Rattle.state_model.specs.Sound.{keys_differ}
 use Rattle.room_model.specs.declared.definition.RoomDef.{RoomDef}
 use Rattle.text_model.specs.declared.path.FirstPath.{FirstPath}
@@ -14,7 +15,6 @@ use Rattle.text_model.specs.Paths.{field_words, def_words, is_definition, is_wit
 use Rattle.text_model.specs.Readings.{class_line, root_line, field_line, process_line, room_line, with_class, with_field, with_process, with_def, read_def, no_def, blank_id, blank_reader}
 use Rattle.text_model.proofs.DecimalLaw.{read_decimal_within}
 use Rattle.text_model.proofs.Runs.{reader_at, run}
-use Rattle.text_model.proofs.TurnLines.{is_its_word}
 use Rattle.text_model.proofs.Keys.{keys_apart}
 use Rattle.text_model.proofs.HeadLines.{head, head_at}
 use Rattle.text_model.proofs.HeadRead.{field_more}
@@ -30,7 +30,7 @@ field_taken : (p : FirstPath) (o : ℕ) (name : List ℕ) → is_field_name name
 field_taken p o name fit new room = ap (λ b. cond b (Some (with_field name (reader_at stage.Fields p o))) None) (and_from _ _ (and_from _ _ fit new) (lt-ltb (length p.fields) 63 room))
 
 root_taken : (p : FirstPath) (o : ℕ) → root_line (reader_at stage.Fields p o) (codes "root" ∷ p.class ∷ []) ≡ Some (reader_at stage.Process p o)
-root_taken p o = ap (λ b. cond b (Some (reader_at stage.Process p o)) None) (is_its_word p.class)
+root_taken p o = ap (λ b. cond b (Some (reader_at stage.Process p o)) None) (bytes_eq_self p.class)
 
 -- the same schedule with these fields
 abbrev pub with_fields : FirstPath → List (List ℕ) → FirstPath

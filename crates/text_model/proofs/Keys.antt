@@ -1,14 +1,10 @@
 -- Names that differ, with one name more.
 use Rattle.std.proofs.Common.{◌≡◌, ℕ, true, false, not, ◌||◌, List, [], ◌∷◌, ◌++◌, refl, sym, ap, ◌∙◌, bytes_eq}
 use Rattle.std.specs.List.{list_any}
-use Rattle.std.proofs.lemmas.Slice.Eq.{bytes_eq-Decides}
 use Rattle.std.proofs.lemmas.List.Folds.{list_any-append}
-use Rattle.std.proofs.lemmas.Bool.{and_parts, and_from, or_parts, or_from, not-true, false_from_ne_true, true≢false}
+use Rattle.std.proofs.lemmas.Bool.{and_parts, and_from, or_parts, or_from, not-true}
+use Rattle.lists.proofs.SameBytes.{bytes_eq_sym}
 use Rattle.state_model.specs.Sound.{keys_differ}
-
--- two names differ either way
-apart_back : (a b : List ℕ) → bytes_eq a b ≡ false → bytes_eq b a ≡ false
-apart_back a b h = false_from_ne_true (bytes_eq b a) (λ e. true≢false (sym ((bytes_eq-Decides a b).1 (sym ((bytes_eq-Decides b a).0 e))) ∙ h))
 
 pub keys_push : (ks : List (List ℕ)) (k : List ℕ) → keys_differ ks ≡ true → not (list_any (bytes_eq k) ks) ≡ true → keys_differ (ks ++ k ∷ []) ≡ true
 keys_push [] k d n = refl
@@ -17,7 +13,7 @@ keys_push (x ∷ ks) k d n =
     let apart = or_parts (bytes_eq k x) (list_any (bytes_eq k) ks) (not-true _ n) in
     let alone : list_any (bytes_eq x) (ks ++ k ∷ []) ≡ false =
     list_any-append (bytes_eq x) ks (k ∷ [])
-    ∙ or_from (list_any (bytes_eq x) ks) (bytes_eq x k || false) (not-true _ parts.0) (or_from (bytes_eq x k) false (apart_back k x apart.0) refl) in
+    ∙ or_from (list_any (bytes_eq x) ks) (bytes_eq x k || false) (not-true _ parts.0) (or_from (bytes_eq x k) false (bytes_eq_sym x k ∙ apart.0) refl) in
     and_from (not (list_any (bytes_eq x) (ks ++ k ∷ []))) (keys_differ (ks ++ k ∷ [])) (ap not alone) (keys_push ks k parts.1 (ap not apart.1))
 
 -- a name that stands behind others differs from them
@@ -28,4 +24,4 @@ keys_apart (x ∷ ks) k more d =
     let none = sym (list_any-append (bytes_eq x) ks (k ∷ more)) ∙ not-true _ parts.0 in
     let behind = or_parts (list_any (bytes_eq x) ks) (bytes_eq x k || list_any (bytes_eq x) more) none in
     let here = or_parts (bytes_eq x k) (list_any (bytes_eq x) more) behind.1 in
-    ap not (or_from (bytes_eq k x) (list_any (bytes_eq k) ks) (apart_back x k here.0) (not-true _ (keys_apart ks k more parts.1)))
+    ap not (or_from (bytes_eq k x) (list_any (bytes_eq k) ks) (bytes_eq_sym k x ∙ here.0) (not-true _ (keys_apart ks k more parts.1)))

@@ -16,3 +16,4 @@ pub mod PlainLines
 pub mod PlainPath
 pub mod PathLaw
 pub mod Ascii
+pub mod FirstLine

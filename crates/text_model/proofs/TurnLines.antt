@@ -1,7 +1,7 @@
 -- The lines of moments, puts and ticks: each is taken as its event, and nothing else is.
 use Rattle.std.proofs.Common.{◌≡◌, ℕ, ◌^◌, ◌≤◌, Bool, true, false, ◌&&◌, cond, List, [], ◌∷◌, length, Option, Some, None, ℤ, refl, sym, ap, ◌∙◌, arith, ltb, lt-ltb, option_map, option_and_then, codes}
-use Rattle.std.proofs.lemmas.Slice.Eq.{bytes_eq-Decides}
 use Rattle.std.proofs.lemmas.Bool.{and_parts, and_from, true≢false}
+use Rattle.lists.proofs.SameBytes.{same_bytes}
 use Rattle.schema_model.specs.Fits.{in_signed}
 use Rattle.text_model.specs.declared.path.Item.{Item}
 use Rattle.text_model.specs.declared.path.Item.TheVariants.{At, Put, Tick}
@@ -17,10 +17,7 @@ use Rattle.text_model.proofs.Runs.{reader_at, more}
 -- ---- words and choices
 
 pub word_is : (word w : List ℕ) → is_word word w ≡ true → w ≡ word
-word_is word w h = (bytes_eq-Decides w word).0 h
-
-pub is_its_word : (w : List ℕ) → is_word w w ≡ true
-is_its_word w = (bytes_eq-Decides w w).1 refl
+word_is word w h = same_bytes w word h
 
 -- what a choice gives that maps an optional value
 pub mapped : {A B : Type 0} (b : Bool) (f : A → B) (o : Option A) (y : B) → cond b (option_map f o) None ≡ Some y → (x : A) × (b ≡ true) × (o ≡ Some x) × (f x ≡ y)

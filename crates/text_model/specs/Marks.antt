@@ -1,7 +1,9 @@
 -- Words of texts: escapes, bytes in hex, names and ids. Ours.
-use Rattle.std.specs.Prelude.{ℕ, ◌+◌, ◌/◌, ◌%◌, Bool, not, ◌&&◌, ◌||◌, List, [], ◌∷◌, ◌++◌, length, nat_lt, nat_le, ◌==◌, if◌then◌else◌, codes}
+use Rattle.std.specs.Prelude.{ℕ, ◌+◌, ◌/◌, ◌%◌, Bool, not, ◌&&◌, ◌||◌, List, [], ◌∷◌, ◌++◌, length, map, nat_lt, nat_le, ◌==◌, if◌then◌else◌, codes}
 use Rattle.std.specs.List.{flat_map, list_all, list_any}
 use Rattle.std.specs.Str.{bytes_eq}
+use Rattle.schema_model.specs.declared.scalar.ScalarKind.{ScalarKind}
+use Rattle.schema_model.specs.declared.scalar.ScalarKind.TheVariants as kind
 
 -- a hex digit, lower case
 abbrev pub hex_digit : ℕ → ℕ
@@ -50,11 +52,25 @@ is_id w = (length w == 9) && list_all is_id_byte w
 abbrev pub is_room_name : List ℕ → Bool
 is_room_name w = has_name_length w && list_all is_id_byte w
 
+-- the word of a kind of scalar
+abbrev pub scalar_word : ScalarKind → List ℕ
+scalar_word kind.Number = codes "number"
+scalar_word kind.Str = codes "string"
+scalar_word kind.Bool = codes "boolean"
+scalar_word kind.I8 = codes "int8"
+scalar_word kind.U8 = codes "uint8"
+scalar_word kind.I16 = codes "int16"
+scalar_word kind.U16 = codes "uint16"
+scalar_word kind.I32 = codes "int32"
+scalar_word kind.U32 = codes "uint32"
+
+-- all kinds
+abbrev pub all_kinds : List ScalarKind
+all_kinds = kind.Number ∷ kind.Str ∷ kind.Bool ∷ kind.I8 ∷ kind.U8 ∷ kind.I16 ∷ kind.U16 ∷ kind.I32 ∷ kind.U32 ∷ []
+
 -- the words for kinds of scalar
 abbrev pub kind_words : List (List ℕ)
-kind_words =
-    codes "number" ∷ codes "string" ∷ codes "boolean" ∷ codes "int8" ∷ codes "uint8" ∷ codes "int16" ∷ codes "uint16"
-    ∷ codes "int32" ∷ codes "uint32" ∷ []
+kind_words = map scalar_word all_kinds
 
 -- the words for shapes
 abbrev pub shape_words : List (List ℕ)

@@ -3,8 +3,8 @@ use Rattle.std.proofs.Common.{◌≡◌, ℕ, suc, ◌<◌, Bool, true, false, n
 use Rattle.std.specs.List.{list_all, list_any}
 use Rattle.std.specs.Str.{bytes_eq}
 use Rattle.std.proofs.lemmas.Bool.{and_parts, eqb-true}
-use Rattle.std.proofs.lemmas.Bool.Decides.{nat_tests, same_from_decides, Decides-like}
-use Rattle.std.proofs.lemmas.Slice.Eq.{bytes_eq-Decides}
+use Rattle.std.proofs.lemmas.Bool.Decides.{nat_tests}
+use Rattle.lists.proofs.SameBytes.{bytes_eq_sym}
 use Rattle.lists.specs.Rising.{RisesFrom, put}
 use Rattle.lists.proofs.RisingLaws.{RisesFrom-put, RisesFrom-filter, RisesFrom-remove}
 use Rattle.schema_model.specs.Classes.{Schema}
@@ -61,10 +61,6 @@ edited_kind es c = edited_keeps (λ r. emptied r ≡ emptied c) (λ e. true) (λ
 
 -- ---- the items of a map
 
--- which of two keys comes first makes no difference
-bytes_eq-sym : (a b : List ℕ) → bytes_eq a b ≡ bytes_eq b a
-bytes_eq-sym a b = same_from_decides (bytes_eq a b) (bytes_eq b a) (bytes_eq-Decides a b) (Decides-like (bytes_eq b a) sym sym (bytes_eq-Decides b a))
-
 -- the number of an item
 abbrev number : MapItem → ℕ
 number i = i.number
@@ -95,7 +91,7 @@ clear_filter t (i ∷ is) = grind (arith, clear_filter t is)
 -- items above a number that have it or another key have another key
 clear_above : (n : ℕ) (k : List ℕ) (low : ℕ) (items : List MapItem) → RisesFrom number low items → n < low → list_all (is_clear n k) items ≡ true → list_any (bytes_eq k) (item_keys items) ≡ false
 clear_above n k low [] r h c = refl
-clear_above n k low (i ∷ is) r h c = grind (arith, nat_tests, bytes_eq-sym k i.key, clear_above n k (suc i.number) is r.1)
+clear_above n k low (i ∷ is) r h c = grind (arith, nat_tests, bytes_eq_sym k i.key, clear_above n k (suc i.number) is r.1)
 
 -- a key that isn't among items nor the new one's isn't among them with the new one
 key_put : (k : List ℕ) (x : MapItem) (items : List MapItem) → bytes_eq k x.key ≡ false → list_any (bytes_eq k) (item_keys items) ≡ false → list_any (bytes_eq k) (item_keys (put number x items)) ≡ false

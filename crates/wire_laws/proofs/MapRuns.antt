@@ -4,6 +4,7 @@ use Rattle.std.specs.List.{fold, list_any}
 use Rattle.std.specs.Option.{option_map}
 use Rattle.std.specs.Str.{bytes_eq}
 use Rattle.std.proofs.lemmas.Bool.Decides.{nat_tests}
+use Rattle.lists.proofs.SameBytes.{same_bytes, bytes_eq_self}
 use Rattle.lists.specs.Rising.{RisesFrom, find, remove}
 use Rattle.lists.proofs.RisingLaws.{find_key, find-put, find-remove, find-filter, RisesFrom-put, RisesFrom-filter, RisesFrom-remove}
 use Rattle.schema_model.specs.Classes.{Schema}
@@ -19,7 +20,7 @@ use Rattle.wire_model.specs.declared.op.OpKey.TheVariants.{Item, Named}
 use Rattle.wire_model.specs.Edits.{Edit, carried_value}
 use Rattle.wire_model.specs.Effect.{Items, effect, without_key, put_named, put_value}
 use Rattle.wire_model.specs.Patch.{carried, changed_place, place_edit, map_item, item_key, item_value, map_edits}
-use Rattle.wire_laws.proofs.Values.{same_bytes, bytes_eq_self, same_is, carried_is}
+use Rattle.wire_laws.proofs.Values.{same_is, carried_is}
 use Rattle.wire_laws.proofs.Runs.{Between, Stepped, Waits, whole_run}
 
 -- ---- rising lists whose items change and keep their keys

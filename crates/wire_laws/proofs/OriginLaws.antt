@@ -19,11 +19,12 @@ use Rattle.state_model.specs.Places.{same_kind}
 use Rattle.state_model.specs.Reached.{is_among}
 use Rattle.state_laws.proofs.Passing.{list_any_narrower, list_any-flat_map, found_passing}
 use Rattle.std.proofs.lemmas.Bool.{and_parts, and_from}
+use Rattle.lists.proofs.SameBytes.{same_bytes, bytes_eq_self}
 use Rattle.state_laws.proofs.Tests.{list_any-map, StandsIn, list_all_wider, all_and_any, all-found}
 use Rattle.wire_model.specs.Effect.{edited_row}
 use Rattle.wire_model.specs.Patch.{row_edits, whole_edits, map_item}
 use Rattle.wire_laws.proofs.Forms.{IsFormed}
-use Rattle.wire_laws.proofs.Values.{same_is, same_self, same_bytes, bytes_eq_self}
+use Rattle.wire_laws.proofs.Values.{same_is, same_self}
 use Rattle.wire_laws.proofs.EditSteps.{all_each}
 use Rattle.wire_laws.proofs.EditedPlaces.{all_places, edited_places, whole_places}
 use Rattle.wire_laws.proofs.Origins.{has_field, has_value, has_key, some_row, IsFrom}

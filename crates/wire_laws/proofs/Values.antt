@@ -1,9 +1,8 @@
 -- When two values are one, and what an operation carries of a value.
-use Rattle.std.proofs.Common.{◌≡◌, ℕ, ℤ, pos, negsuc, Bool, true, false, List, [], ◌∷◌, Option, refl, sym, ap, arith}
+use Rattle.std.proofs.Common.{◌≡◌, ℤ, pos, negsuc, Bool, true, false, List, [], ◌∷◌, Option, refl, sym, ap, arith}
 use Rattle.std.specs.Bool.{Decides}
-use Rattle.std.specs.Str.{bytes_eq}
 use Rattle.std.proofs.lemmas.Bool.Decides.{nat_tests, same_from_decides}
-use Rattle.std.proofs.lemmas.Slice.Eq.{bytes_eq-Decides}
+use Rattle.lists.proofs.SameBytes.{same_bytes, bytes_eq_self}
 use Rattle.schema_model.specs.declared.value.Value.{Value}
 use Rattle.schema_model.specs.declared.value.Value.TheVariants.{Whole, Str, Truth, Link}
 use Rattle.state_model.specs.declared.row.RowEntry.{RowEntry}
@@ -11,14 +10,6 @@ use Rattle.state_model.specs.Values.{same_whole, same_truth, same_value}
 use Rattle.state_model.specs.declared.place.Wanted.{Wanted}
 use Rattle.wire_model.specs.Edits.{carried_value}
 use Rattle.wire_model.specs.Patch.{carried, same_values}
-
--- byte strings that the test takes for equal are equal
-pub same_bytes : (a b : List ℕ) → bytes_eq a b ≡ true → a ≡ b
-same_bytes a b h = (bytes_eq-Decides a b).0 h
-
--- a byte string passes the test with itself
-pub bytes_eq_self : (a : List ℕ) → bytes_eq a a ≡ true
-bytes_eq_self a = (bytes_eq-Decides a a).1 refl
 
 -- whole numbers that the test takes for equal are equal
 whole_is : (a b : ℤ) → same_whole a b ≡ true → a ≡ b

@@ -5,7 +5,7 @@ use Rattle.std.specs.Option.{option_and_then, option_or}
 use Rattle.std.specs.Str.{bytes_eq}
 use Rattle.std.proofs.lemmas.Bool.Decides.{nat_tests}
 use Rattle.std.proofs.lemmas.List.{take_more}
-use Rattle.std.proofs.lemmas.Slice.Eq.{bytes_eq-Decides}
+use Rattle.lists.proofs.SameBytes.{same_bytes}
 use Rattle.lists.specs.Rising.{RisesFrom, IsAbove, find, put, remove}
 use Rattle.lists.proofs.RisingLaws.{find_key, find_above, find-put, find-remove, find-append, find-filter, IsAbove-take, RisesFrom-put, RisesFrom-filter, RisesFrom-remove, same_rising}
 use Rattle.schema_model.specs.declared.value.Value.{Value}
@@ -33,9 +33,6 @@ if_stays n key held = option_and_then (λ i. cond (stays n key i) (Some i) None)
 abbrev pub without_found : Option ℕ → List MapItem → List MapItem
 without_found None items = items
 without_found (Some n) items = remove number_of n items
-
-same_key : (a b : List ℕ) → bytes_eq a b ≡ true → a ≡ b
-same_key a b = (bytes_eq-Decides a b).0
 
 -- one number is found at most
 one_number : (found : Option ℕ) (n k : ℕ) → is_found found n ≡ true → is_found found k ≡ (n == k)
@@ -98,7 +95,7 @@ put_found : (n k : ℕ) (key q : List ℕ) (x : MapItem) (held : Option MapItem)
     is_found (cond (bytes_eq key q) (Some n) other) k ≡ has_key q (cond (n == k) (Some x) (if_stays n key held))
 put_found n k key q x None other e h numbered = grind (arith, nat_tests)
 put_found n k key q x (Some i) other e h numbered =
-    let number : i.number ≡ k = numbered i refl in grind (arith, nat_tests, same_key key q, same_key i.key key)
+    let number : i.number ≡ k = numbered i refl in grind (arith, nat_tests, same_bytes key q, same_bytes i.key key)
 
 IsIndex-put_named : (n : ℕ) (key : List ℕ) (v : Value) (items : List MapItem) (f g h : Index) → Rises items → IsIndex items f →
     ((q : List ℕ) → g q ≡ without_item (find number_of n items) f q) → ((q : List ℕ) → h q ≡ update bytes_eq g key (Some n) q) → IsIndex (put_named n key v items) h
@@ -154,7 +151,7 @@ IsIndex-push : (items : List MapItem) (x : MapItem) (f g : Index) → IsAbove nu
 IsIndex-push items x f g above index free made = λ q k.
     let new : x.number ≡ k → find number_of k items ≡ None = λ e. find_above number_of x.number items k above (omega (arith, e)) in
     ap (λ o. is_found o k) (made q)
-    ∙ pushed_found k q x (find number_of k items) (f q) (index q k) (λ e. ap f (sym (same_key x.key q e)) ∙ free) new
+    ∙ pushed_found k q x (find number_of k items) (f q) (index q k) (λ e. ap f (sym (same_bytes x.key q e)) ∙ free) new
     ∙ ap (has_key q) (sym (find-append number_of items (x ∷ []) k))
 
 -- one more item, whose key led nowhere

@@ -1,6 +1,7 @@
-//! The kernels: one public call each, over rows of a size.
+//! The kernels: one public call each, over rows of a size, or over a schema of so many classes.
 ghost use Rattle.std.specs.Prelude.{◌≤◌, ◌^◌};
 
+use crate::classes::read_classes;
 use crate::rows::{members, players_state};
 use crate::schema::players_schema;
 use crate::sums::{sum_of_blocks, sum_of_numbers, sum_of_rows};
@@ -8,6 +9,9 @@ use canon_patch::{apply_blocks, patch};
 use plain_rows::{Rows, freed, permitted, reached};
 use schema_model::{Memory, RefNum};
 use std::alloc::Global;
+
+// A schema has no more classes.
+const MOST_CLASSES: u32 = 256;
 
 /// What is measured.
 #[derive(Clone, Copy, Debug, PartialEq, Eq)]
@@ -17,6 +21,7 @@ pub enum Kernel {
     Permitted,
     Patch,
     ApplyBlocks,
+    ReadSchema,
 }
 
 impl Kernel {
@@ -28,6 +33,7 @@ impl Kernel {
             "permitted" => Some(Kernel::Permitted),
             "patch" => Some(Kernel::Patch),
             "apply_blocks" => Some(Kernel::ApplyBlocks),
+            "read_schema" => Some(Kernel::ReadSchema),
             _ => None,
         }
     }
@@ -43,6 +49,8 @@ pub fn work(alloc: Global, kernel: Kernel, players: u32) -> Result<u64, Memory>
         Kernel::Permitted => permit(alloc, players),
         Kernel::Patch => make_patch(alloc, players),
         Kernel::ApplyBlocks => apply_patch(alloc, players),
+        // Two classes for each player.
+        Kernel::ReadSchema => read_classes(alloc, 2 * players.min(MOST_CLASSES / 2)),
     }
 }
 

@@ -4,6 +4,7 @@
 
 ghost use Rattle.std.specs.Prelude.{◌≤◌, ◌^◌, IfOk, IfSome};
 
+mod classes;
 mod kernel;
 mod rows;
 mod schema;

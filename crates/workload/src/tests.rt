@@ -10,6 +10,7 @@ fn sums_up_what_three_players_give(rt: HostRuntime) -> Result<(), Fail> {
         (Kernel::Permitted, 98),
         (Kernel::Patch, 106),
         (Kernel::ApplyBlocks, 127),
+        (Kernel::ReadSchema, 63 * 21),
     ];
     for (kernel, sum) in sums {
         let found = work(rt.alloc(), kernel, 3)?;

@@ -1,0 +1,9 @@
+pub mod ReadLaws
+pub mod Lines
+pub mod LineForms
+pub mod GivesLaws
+pub mod Drafts
+pub mod Numbers
+pub mod ItemWords
+pub mod Writes
+pub mod KindWords

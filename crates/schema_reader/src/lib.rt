@@ -1,0 +1,21 @@
+//! The text of a schema: read, with its first fault, and written.
+#![tactic(auto)]
+
+pub mod decimal;
+mod draft;
+mod form;
+mod kinds;
+pub mod line;
+pub mod names;
+mod read;
+mod resolve;
+mod take;
+mod words;
+mod write;
+
+pub use read::read_schema;
+pub use schema_text::SchemaFault;
+pub use write::write_schema;
+
+#[cfg(test)]
+mod tests;
