@@ -16,9 +16,9 @@ use lists::Memory;
 use schema_model::Schema;
 use state_model::{Row, RowEntry, Rows};
 use std::alloc::Global;
+use trees::Tree;
 use wire_model::{Block, Blocks, Ops};
 use wire_ops::holder::Holder;
-use wire_ops::tree::Tree;
 
 /// The rows after blocks: each operation is done to its holder, and the rows that it links to are there,
 /// empty where they weren't. Nothing is freed.

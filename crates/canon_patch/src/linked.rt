@@ -13,8 +13,8 @@ use lists::{Memory, Rising, Seq};
 use schema_model::{RefNum, Schema, TypeNum};
 use state_model::{Row, RowEntry};
 use std::alloc::Global;
+use trees::Tree;
 use wire_model::{Op, OpKey, OpValue, Ops};
-use wire_ops::tree::Tree;
 
 /// A holder without its places; an instance of the first class where it isn't there.
 pub fn holder_kind(alloc: Global, rows: &Tree<RowEntry>, who: RefNum) -> Row

@@ -4,4 +4,3 @@ mod PlaceLaws
 mod SlotLaws
 pub mod EffectLaws
 pub mod NumbersWritable
-pub mod TreeLaws

@@ -6,7 +6,7 @@ use Rattle.std.proofs.lemmas.Bool.Decides.{nat_tests}
 use Rattle.schema_model.specs.declared.value.Value.{Value}
 use Rattle.schema_model.specs.declared.value.Value.TheVariants as value
 use Rattle.wire_model.specs.Effect.{has_link, closed_slots, push_link, drop_link}
-use Rattle.wire_ops.specs.Trees.{Slot}
+use Rattle.wire_ops.specs.Slots.{Slot}
 use Rattle.wire_ops.specs.Places.{IsFirstPlace, NotesAlso, NotesNoMore, stands_at, IsPlaced}
 
 -- ---- where links stand once a slot is changed

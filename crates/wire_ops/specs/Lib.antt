@@ -4,5 +4,5 @@ pub mod Index
 pub mod NumberBlocks
 pub mod Places
 pub mod PlainEdits
-pub mod Trees
+pub mod Slots
 pub mod Writable

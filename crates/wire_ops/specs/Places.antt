@@ -2,7 +2,7 @@
 use Rattle.std.specs.Prelude.{ℕ, suc, ◌≡◌, ◌+◌, ◌^◌, ◌≤◌, Bool, false, not, ◌&&◌, ◌||◌, ◌==◌, if◌then◌else◌, List, [], ◌∷◌, length, Option, Some, None, IsTrue}
 use Rattle.std.specs.List.{list_any}
 use Rattle.wire_model.specs.Effect.{has_link}
-use Rattle.wire_ops.specs.Trees.{Slot}
+use Rattle.wire_ops.specs.Slots.{Slot}
 
 -- a place of a link to a row is among the pairs of a row's number and a place
 abbrev pub is_noted : List (ℕ × ℕ) → ℕ → ℕ → Bool

@@ -9,11 +9,11 @@ use crate::carried::placed_value;
 use crate::holder::{Elements, Holder};
 use crate::items::Items;
 use crate::slots::Slots;
-use crate::tree::Tree;
 use lists::Memory;
 use schema_model::Value;
 use state_model::{FieldValue, FieldValues, Row, SetItem};
 use std::alloc::Global;
+use trees::Tree;
 use wire_model::{Op, OpKey};
 
 impl Holder {

@@ -1,8 +1,8 @@
 use crate::items::Items;
 use crate::slots::Slots;
-use crate::tree::Tree;
 use schema_model::{Home, TypeNum};
 use state_model::{FieldValues, SetItem};
+use trees::Tree;
 
 /// The items of a set while operations run.
 pub type Elements = Tree<SetItem>;

@@ -1,5 +1,5 @@
 ghost use Rattle.std.specs.Prelude.{◌≡◌, ◌==◌, ◌||◌, not, filter, [], OnOk, IfOk, is_some};
-ghost use Rattle.std.specs.BTreeMap.{get_by_text};
+ghost use Rattle.trees.specs.Texts.{text_number};
 ghost use Rattle.std.specs.List.{list_any};
 ghost use Rattle.std.specs.Str.{bytes_eq};
 ghost use Rattle.lists.specs.Rising as rising;
@@ -8,13 +8,13 @@ ghost use Rattle.wire_model.specs.Effect.{without_key, put_named, put_value};
 ghost use Rattle.wire_ops.specs.Index.{IsIndex};
 
 use crate::key_index::KeyIndex;
-use crate::tree::Tree;
 use lists::{Memory, Text};
 use schema_model::Value;
 use state_model::{MapItem, MapItems};
 use std::alloc::Global;
 use std::marker::Model;
 use std::mem;
+use trees::Tree;
 
 /// The items of a map while operations run: found by number and by key in logarithmic time.
 #[derive(Drop)]
@@ -27,7 +27,7 @@ pub struct Items {
 
 impl Model for Items {
     ghost use Rattle.std.specs.Prelude.{List, IfSome};
-    ghost use Rattle.std.specs.BTreeMap.{get_by_text};
+    ghost use Rattle.trees.specs.Texts.{text_number};
     ghost use Rattle.state_model.specs.declared.row.MapItem.{MapItem};
     ghost use Rattle.wire_ops.specs.Index.{IsIndex};
 
@@ -35,7 +35,7 @@ impl Model for Items {
 
     ghost view = { λ s. s.items };
 
-    ghost invariant = { λ s. IfSome s.index (λ i. IsIndex s.items (get_by_text i.numbers)) };
+    ghost invariant = { λ s. IfSome s.index (λ i. IsIndex s.items (text_number i.numbers)) };
 }
 
 impl Items {
@@ -152,9 +152,9 @@ fn put_by_index(
     key: &Text,
     value: Value,
 ) -> Result<(), Memory>
-    requires { IsIndex items.old (get_by_text index.old.numbers) }
+    requires { IsIndex items.old (text_number index.old.numbers) }
     ensures items { OnOk result (items.new ≡ put_named number key.now value items.old) }
-    ensures index { OnOk result (IsIndex items.new (get_by_text index.new.numbers)) }
+    ensures index { OnOk result (IsIndex items.new (text_number index.new.numbers)) }
 {
     let replaced = items.put(MapItem {
         number,

@@ -12,7 +12,6 @@ pub mod links;
 pub mod slots;
 #[cfg(test)]
 mod tests;
-pub mod tree;
 pub mod write;
 
 pub use holder::Holder;

@@ -26,7 +26,7 @@ pub struct Slots {
 impl Model for Slots {
     ghost use Rattle.std.specs.Prelude.{List};
     ghost use Rattle.wire_ops.specs.Places.{IsPlaced};
-    ghost use Rattle.wire_ops.specs.Trees.{Slot};
+    ghost use Rattle.wire_ops.specs.Slots.{Slot};
 
     ghost Value = { List Slot };
 

@@ -1,5 +1,5 @@
 use Rattle.state_model.specs.Rows.{number_of}
-use Rattle.wire_ops.proofs.TreeLaws.{next_above}
+use Rattle.trees.proofs.TreeLaws.{next_above}
 use Rattle.canon_patch.proofs.apply.rows_of.Goals as goal
 
 pub push-requires : goal.push-requires

@@ -1,5 +1,5 @@
 use Rattle.state_model.specs.declared.row.MapItem.{MapItem}
-use Rattle.wire_ops.proofs.TreeLaws.{found_some}
+use Rattle.trees.proofs.TreeLaws.{found_some}
 use Rattle.wire_ops.proofs.items.Items.has.Goals as goal
 
 pub returns : goal.returns

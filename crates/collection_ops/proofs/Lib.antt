@@ -1,0 +1,5 @@
+mod Copies
+mod Indexed
+mod MapLaws
+mod SameValues
+mod SetLaws

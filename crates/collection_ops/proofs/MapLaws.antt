@@ -1,0 +1,172 @@
+-- The items of a map while values are put under keys and taken out.
+use Rattle.std.proofs.Common.{◌≡◌, ℕ, suc, ◌+◌, ◌<◌, ◌≤◌, Bool, List, [], ◌∷◌, ◌++◌, map, Option, Some, None, Ok, Err, IsSome, false, not, filter, is_some, if◌then◌else◌, option_map, refl, sym, ap, subst, ◌∙◌, zero-le, arith}
+use Rattle.std.specs.Bool.{nat_lt}
+use Rattle.std.specs.Map.{update}
+use Rattle.std.specs.Str.{bytes_eq}
+use Rattle.std.proofs.lemmas.Bool.Decides.{nat_tests}
+use Rattle.std.proofs.lemmas.Option.{same_Some}
+use Rattle.lists.specs.Rising as rising
+use Rattle.lists.specs.Rising.{RisesFrom, IsAbove}
+use Rattle.lists.proofs.RisingLaws.{RisesFrom-put, RisesFrom-push, RisesFrom-filter, IsAbove-put, IsAbove-higher, IsAbove-append, IsAbove-filter}
+use Rattle.lists.proofs.SameBytes.{same_bytes, bytes_eq_self}
+use Rattle.schema_model.specs.declared.value.Value.{Value}
+use Rattle.state_model.specs.declared.row.MapItem.{MapItem}
+use Rattle.state_model.specs.Sound.{keys_differ}
+use Rattle.state_model.specs.Commands.{put_key}
+use Rattle.collection_ops.specs.declared.fault.ItemFault.TheVariants.{NumbersSpent}
+use Rattle.collection_ops.specs.Bodies.{MapState, map_number, key_item, if_there, map_put, map_put_over, map_remove, IsMapKept, LeadsKeys}
+use Rattle.collection_ops.proofs.Indexed.{all_differ, item_found, item_there, leads-push, differ-push, push_undone, item_out, leads-out, differ-filter}
+
+-- the key of an item
+abbrev key_in : MapItem → List ℕ
+key_in i = i.key
+
+-- keys differ where nothing stands twice
+keys_apart : (ks : List (List ℕ)) → keys_differ ks ≡ all_differ bytes_eq ks
+keys_apart [] = refl
+keys_apart (k ∷ ks) = grind (arith, nat_tests, keys_apart ks)
+
+-- the item of a key has a number from the least on
+number_from : (low : ℕ) (items : List MapItem) (key : List ℕ) (i : MapItem) → RisesFrom map_number low items → key_item items key ≡ Some i → low ≤ i.number
+number_from low [] key i r h = cc
+number_from low (x ∷ items) key i r h = grind (arith, nat_tests, r.0, number_from (suc x.number) items key i r.1)
+
+-- and below the greatest
+number_below : (high : ℕ) (items : List MapItem) (key : List ℕ) (i : MapItem) → IsAbove map_number high items → key_item items key ≡ Some i → i.number < high
+number_below high [] key i a h = cc
+number_below high (x ∷ items) key i a h = grind (arith, nat_tests, a.0, number_below high items key i a.1)
+
+-- ---- a new value under a key that is there
+
+-- the new value stands under the number of the key
+put_key_again : (low next : ℕ) (key : List ℕ) (v : Value) (items : List MapItem) (i : MapItem) → RisesFrom map_number low items → key_item items key ≡ Some i →
+    put_key next key v items ≡ rising.put map_number (record { number = i.number; key = key; value = v }) items
+put_key_again low next key v [] i r h = cc
+put_key_again low next key v (x ∷ items) i r h =
+    grind (arith, nat_tests, same_bytes x.key key, number_from (suc x.number) items key i r.1, put_key_again (suc x.number) next key v items i r.1)
+
+-- the keys stay
+keys_again : (next : ℕ) (key : List ℕ) (v : Value) (items : List MapItem) (i : MapItem) → key_item items key ≡ Some i → map key_in (put_key next key v items) ≡ map key_in items
+keys_again next key v [] i h = cc
+keys_again next key v (x ∷ items) i h = grind (arith, nat_tests, keys_again next key v items i)
+
+-- each key leads to the number that it led to
+leads_again : (next : ℕ) (key : List ℕ) (v : Value) (items : List MapItem) (i : MapItem) (q : List ℕ) → key_item items key ≡ Some i →
+    option_map map_number (key_item (put_key next key v items) q) ≡ option_map map_number (key_item items q)
+leads_again next key v [] i q h = cc
+leads_again next key v (x ∷ items) i q h = grind (arith, nat_tests, leads_again next key v items i q)
+
+-- what a state keeps, an index and the answer of a call
+abbrev pub AfterPut : MapState → List ℕ → Value → List MapItem → ℕ → (List ℕ → Option ℕ) → ℕ → Option Value → Type 0
+AfterPut s key v after given f n old =
+    IsMapKept (record { items = after; given = given }) × LeadsKeys after f × (map_put s key v ≡ Ok (record { items = after; given = given }, (n, old)))
+
+-- the item of the key is replaced
+put_at : (s : MapState) (key : List ℕ) (v : Value) (f : List ℕ → Option ℕ) (i : MapItem) → IsMapKept s → LeadsKeys s.items f → key_item s.items key ≡ Some i →
+    AfterPut s key v (rising.put map_number (record { number = i.number; key = key; value = v }) s.items) s.given f i.number (Some i.value)
+put_at s key v f i kept leads at =
+    let x : MapItem = record { number = i.number; key = key; value = v } in
+    let same = put_key_again 0 s.given key v s.items i kept.rises at in
+    let below : i.number < s.given = number_below s.given s.items key i kept.below at in
+    let keys = ap keys_differ (keys_again s.given key v s.items i at) ∙ kept.differ in (
+      record { rises = RisesFrom-put map_number 0 x s.items kept.rises zero-le; below = IsAbove-put map_number s.given x s.items kept.below below; differ = rw (← same) keys; few = kept.few },
+      (λ q. leads q ∙ sym (rw (← same) (leads_again s.given key v s.items i q at))),
+      ap (map_put_over s key v) at ∙ ap (λ items. Ok (record { items = items; given = s.given }, (i.number, Some i.value))) same,
+    )
+
+-- a put over the number that the index tells
+pub put_again : (s : MapState) (key : List ℕ) (v : Value) (f : List ℕ → Option ℕ) (n : ℕ) (held : Option MapItem) (after : List MapItem) →
+    IsMapKept s → LeadsKeys s.items f → option_map map_number (key_item s.items key) ≡ Some n → held ≡ rising.find map_number n s.items →
+    after ≡ (if is_some (rising.find map_number n s.items) then rising.put map_number (record { number = n; key = key; value = v }) s.items else s.items) →
+    AfterPut s key v after s.given f n (option_map (λ (i : MapItem). i.value) held)
+put_again s key v f n held after kept leads led found made =
+    let there = item_there map_number key_in bytes_eq same_bytes bytes_eq_self s.items key n led in
+    let at : rising.find map_number n s.items ≡ Some there.0 = rw there.2 at (item_found map_number key_in bytes_eq same_bytes bytes_eq_self 0 s.items key there.0 kept.rises there.1) in
+    let x : ℕ → MapItem = λ m. record { number = m; key = key; value = v } in
+    let put = subst (λ m. AfterPut s key v (rising.put map_number (x m) s.items) s.given f m (Some there.0.value)) there.2 (put_at s key v f there.0 kept leads there.1) in
+    let whole : after ≡ rising.put map_number (x n) s.items = made ∙ ap (λ o. if is_some o then rising.put map_number (x n) s.items else s.items) at in
+    rw (whole, found ∙ at) put
+
+-- ---- a new key
+
+-- the new item stands behind the others
+put_key_new : (next : ℕ) (key : List ℕ) (v : Value) (items : List MapItem) → key_item items key ≡ None →
+    put_key next key v items ≡ items ++ record { number = next; key = key; value = v } ∷ []
+put_key_new next key v [] h = refl
+put_key_new next key v (x ∷ items) h = grind (arith, nat_tests, put_key_new next key v items)
+
+-- a number is left
+pub left_over : (given : ℕ) → given ≤ 2147483647 → nat_lt 2147483647 given ≡ false
+left_over given few = grind (arith, nat_tests)
+
+-- a put of a key that isn't there
+pub put_new : (s : MapState) (key : List ℕ) (v : Value) (f g : List ℕ → Option ℕ) → IsMapKept s → LeadsKeys s.items f → key_item s.items key ≡ None →
+    s.given ≤ 2147483647 → ((q : List ℕ) → g q ≡ update bytes_eq f key (Some s.given) q) →
+    AfterPut s key v (s.items ++ record { number = s.given; key = key; value = v } ∷ []) (s.given + 1) g s.given None
+put_new s key v f g kept leads absent few made =
+    let x : MapItem = record { number = s.given; key = key; value = v } in
+    let same = put_key_new s.given key v s.items absent in
+    let apart = keys_apart (map key_in s.items) in
+    let differ = differ-push map_number key_in bytes_eq same_bytes bytes_eq_self s.items x absent (sym apart ∙ kept.differ) in (
+      record {
+        rises = RisesFrom-push map_number 0 s.items x kept.rises kept.below zero-le;
+        below = IsAbove-append map_number (s.given + 1) s.items (x ∷ []) (IsAbove-higher map_number s.given (s.given + 1) s.items kept.below (omega arith)) (omega arith, tt);
+        differ = keys_apart (map key_in (s.items ++ x ∷ [])) ∙ differ;
+        few = omega arith;
+      },
+      leads-push map_number key_in bytes_eq same_bytes bytes_eq_self s.items x f g absent leads made,
+      ap (map_put_over s key v) absent
+          ∙ ap (λ b. if b then Err NumbersSpent else Ok (record { items = put_key s.given key v s.items; given = s.given + 1 }, (s.given, None))) (left_over s.given few)
+          ∙ ap (λ items. Ok (record { items = items; given = s.given + 1 }, (s.given, None))) same,
+    )
+
+-- an item that was added is taken out again
+pub put_undone : (s : MapState) (key : List ℕ) (v : Value) (after : List MapItem) → IsMapKept s →
+    after ≡ rising.remove map_number s.given (s.items ++ record { number = s.given; key = key; value = v } ∷ []) → after ≡ s.items
+put_undone s key v after kept is = is ∙ push_undone map_number key_in bytes_eq same_bytes bytes_eq_self s.items (record { number = s.given; key = key; value = v }) kept.below
+
+-- ---- an item is taken out
+
+-- the item of a key that leads somewhere is there
+pub item_held : (s : MapState) (key : List ℕ) (n : ℕ) (held : Option MapItem) → IsMapKept s → option_map map_number (key_item s.items key) ≡ Some n → held ≡ rising.find map_number n s.items → IsSome held
+item_held s key n held kept led found =
+    let there = item_there map_number key_in bytes_eq same_bytes bytes_eq_self s.items key n led in
+    let at = item_found map_number key_in bytes_eq same_bytes bytes_eq_self 0 s.items key there.0 kept.rises there.1 in
+    let same : held ≡ Some there.0 = found ∙ rw there.2 at at in
+    rw same refl
+
+-- the same where an item is taken out
+abbrev pub AfterRemove : MapState → List ℕ → List MapItem → (List ℕ → Option ℕ) → ℕ → Value → Type 0
+AfterRemove s key after g n v =
+    IsMapKept (record { items = after; given = s.given }) × LeadsKeys after g × (map_remove s key ≡ Ok (record { items = after; given = s.given }, (n, v)))
+
+-- the item of the key is taken out
+taken_at : (s : MapState) (key : List ℕ) (f g : List ℕ → Option ℕ) (i : MapItem) → IsMapKept s → LeadsKeys s.items f → key_item s.items key ≡ Some i →
+    ((q : List ℕ) → g q ≡ update bytes_eq f key None q) → AfterRemove s key (filter (λ (x : MapItem). not (bytes_eq x.key key)) s.items) g i.number i.value
+taken_at s key f g i kept leads at left =
+    let stays : MapItem → Bool = λ x. not (bytes_eq x.key key) in
+    let differ = differ-filter map_number key_in bytes_eq same_bytes bytes_eq_self s.items stays (sym (keys_apart (map key_in s.items)) ∙ kept.differ) in (
+      record {
+        rises = RisesFrom-filter map_number 0 stays s.items kept.rises;
+        below = IsAbove-filter map_number s.given stays s.items kept.below;
+        differ = keys_apart (map key_in (filter stays s.items)) ∙ differ;
+        few = kept.few;
+      },
+      leads-out map_number key_in bytes_eq same_bytes bytes_eq_self s.items key f g leads left,
+      ap (λ o. if_there (record { items = filter stays s.items; given = s.given }) (option_map (λ (x : MapItem). (x.number, x.value)) o)) at,
+    )
+
+-- a removal by the number that the index tells
+pub taken_out : (s : MapState) (key : List ℕ) (f g : List ℕ → Option ℕ) (n : ℕ) (i : MapItem) (after : List MapItem) →
+    IsMapKept s → LeadsKeys s.items f → option_map map_number (key_item s.items key) ≡ Some n → Some i ≡ rising.find map_number n s.items →
+    after ≡ rising.remove map_number n s.items → ((q : List ℕ) → g q ≡ update bytes_eq f key None q) → AfterRemove s key after g n i.value
+taken_out s key f g n i after kept leads led found made left =
+    let there = item_there map_number key_in bytes_eq same_bytes bytes_eq_self s.items key n led in
+    let e = there.0 in
+    let at : rising.find map_number n s.items ≡ Some e = rw there.2 at (item_found map_number key_in bytes_eq same_bytes bytes_eq_self 0 s.items key e kept.rises there.1) in
+    let one : i ≡ e = same_Some i e (found ∙ at) in
+    let differ = sym (keys_apart (map key_in s.items)) ∙ kept.differ in
+    let out = item_out map_number key_in bytes_eq same_bytes bytes_eq_self 0 s.items key e kept.rises differ there.1 in
+    let whole = made ∙ rw there.2 at out in
+    let taken = subst (λ m. AfterRemove s key (filter (λ (x : MapItem). not (bytes_eq x.key key)) s.items) g m e.value) there.2 (taken_at s key f g e kept leads there.1 left) in
+    rw (whole, one) taken

@@ -1,0 +1,9 @@
+use Rattle.std.proofs.Common.{arith, zero-le}
+use Rattle.collection_ops.specs.Bodies.{set_number}
+use Rattle.collection_ops.proofs.Indexed.{few_items}
+use Rattle.collection_ops.proofs.set_body.SetBody.len.Goals as goal
+
+pub overflow_cast-result : goal.overflow_cast-result
+overflow_cast-result c =
+    let kept = c.self.invariant.0 in
+    omega (arith, c.len.ensures, kept.few, few_items set_number 0 c.self.inside.given c.self.inside.items kept.rises kept.below zero-le)

@@ -1,0 +1,16 @@
+//! The items of one collection: a map, an array or a set, each call exact.
+#![tactic(auto)]
+
+pub mod array_body;
+pub mod fault;
+pub mod map_body;
+pub mod set_body;
+#[cfg(test)]
+mod tests;
+pub mod value_index;
+
+pub use array_body::ArrayBody;
+pub use fault::ItemFault;
+pub use map_body::MapBody;
+pub use set_body::SetBody;
+pub use value_index::ValueIndex;

@@ -1,0 +1,173 @@
+ghost use Rattle.std.specs.Prelude.{◌≡◌, [], length, map, option_map, slice_get, Some, None, Ok, IfOk, option_copied};
+ghost use Rattle.lists.specs.Rising.{find};
+ghost use Rattle.state_model.specs.declared.row.MapItem.{MapItem};
+ghost use Rattle.collection_ops.specs.Bodies.{MapState, map_number, key_item, map_put, map_remove, Gives, Exactly, IsMapKept};
+
+use crate::fault::{ItemFault, LAST_NUMBER};
+use lists::{Memory, Text};
+use schema_model::Value;
+use state_model::{MapItem, MapItems};
+use std::alloc::Global;
+use std::marker::Model;
+use trees::{Numbered, TextIndex};
+
+/// The items of a map, found by number, by place and by key. A call takes logarithmic time;
+/// taking an item out moves the numbers behind it.
+#[derive(Drop)]
+pub struct MapBody {
+    alloc: Global,
+    items: Numbered<MapItem>,
+    // The number of the item of each key.
+    index: TextIndex,
+    // How many numbers were given.
+    given: u32,
+}
+
+impl Model for MapBody {
+    ghost use Rattle.trees.specs.Texts.{text_number};
+    ghost use Rattle.collection_ops.specs.Bodies.{MapState, IsMapKept, LeadsKeys};
+
+    ghost Value = { MapState };
+
+    ghost view = { λ b. record { items = b.items; given = b.given } };
+
+    ghost invariant = { λ b. IsMapKept (record { items = b.items; given = b.given }) × LeadsKeys b.items (text_number b.index) };
+}
+
+impl MapBody {
+    /// No items, and no number given. They take no memory.
+    pub fn new(alloc: Global) -> Result<MapBody, Memory>
+        ensures { result ≡ Ok (record { items = []; given = 0 }) }
+    {
+        Ok(MapBody {
+            alloc,
+            items: Numbered::new(alloc),
+            index: TextIndex::new(alloc),
+            given: 0,
+        })
+    }
+
+    pub fn len(&self) -> u32
+        ensures { result ≡ length self.now.items }
+    {
+        self.items.len() as u32
+    }
+
+    /// How many item numbers were given: the next new item gets this one.
+    pub fn given(&self) -> u32
+        ensures value { result ≡ self.now.given }
+        ensures kept { IsMapKept self.now }
+    {
+        self.given
+    }
+
+    /// The value under an item number.
+    pub fn get(&self, which: u32) -> Option<&Value>
+        ensures { option_copied result ≡ option_map (λ (i : MapItem). i.value) (find map_number which self.now.items) }
+    {
+        let item = self.items.get(which)?;
+        Some(&item.value)
+    }
+
+    /// The n-th item, counted from 0.
+    pub fn at(&self, n: usize) -> Option<&MapItem>
+        ensures { option_copied result ≡ slice_get self.now.items n }
+    {
+        self.items.at(n)
+    }
+
+    /// The n-th item number, counted from 0.
+    pub fn number_at(&self, n: u32) -> Option<u32>
+        ensures { result ≡ slice_get (map map_number self.now.items) n }
+    {
+        self.items.number_at(n as usize)
+    }
+
+    /// The key under an item number.
+    pub fn key_of(&self, number: u32) -> Option<&str>
+        ensures { option_copied result ≡ option_map (λ (i : MapItem). i.key) (find map_number number self.now.items) }
+    {
+        let item = self.items.get(number)?;
+        Some(item.key.as_str())
+    }
+
+    /// The number of the item of a key.
+    pub fn number_of(&self, key: &str) -> Option<u32>
+        ensures { result ≡ option_map map_number (key_item self.now.items key.now) }
+    {
+        self.index.get(key)
+    }
+
+    /// Puts a value under a key. Answers the item's number, and the value that it had.
+    pub fn put(&mut self, key: Text, value: Value) -> Result<(u32, Option<Value>), ItemFault>
+        ensures { Gives (map_put self.old key value) self.old self.new result }
+    {
+        match self.number_of(key.as_str()) {
+            Some(number) => Ok((number, self.put_again(number, key, value))),
+            None => self.put_new(key, value),
+        }
+    }
+
+    // Puts a new value under a key that is there.
+    fn put_again(&mut self, number: u32, key: Text, value: Value) -> Option<Value>
+        requires { option_map map_number (key_item self.old.items key) ≡ Some number }
+        ensures { map_put self.old key value ≡ Ok (self.new, (number, result)) }
+    {
+        let old = self.items.replace(MapItem { number, key, value })?;
+        Some(old.value)
+    }
+
+    // Puts an item with a key that isn't there.
+    fn put_new(&mut self, key: Text, value: Value) -> Result<(u32, Option<Value>), ItemFault>
+        requires { key_item self.old.items key ≡ None }
+        ensures { Gives (map_put self.old key value) self.old self.new result }
+    {
+        if self.given > LAST_NUMBER {
+            return Err(ItemFault::NumbersSpent);
+        }
+        let number = self.given;
+        let text = key.copy(self.alloc)?.into_string();
+        self.items.push(MapItem { number, key, value })?;
+        match self.index.put(text, number) {
+            Ok(_) => {
+                self.given += 1;
+                Ok((number, None))
+            }
+            Err(_) => {
+                self.items.remove(number);
+                Err(ItemFault::Memory)
+            }
+        }
+    }
+
+    /// Takes the item of a key out. Answers its number and its value.
+    pub fn remove(&mut self, key: &str) -> Result<(u32, Value), ItemFault>
+        ensures { Exactly (map_remove self.old key.now) self.old self.new result }
+    {
+        let Some(number) = self.index.get(key) else {
+            return Err(ItemFault::NoItem);
+        };
+        self.index.remove(key);
+        let item = self.items.remove(number).unwrap();
+        Ok((number, item.value))
+    }
+
+    /// Takes all items out. Their numbers aren't given again.
+    pub fn clear(&mut self)
+        ensures { self.new ≡ record { items = []; given = self.old.given } }
+    {
+        self.items.clear();
+        self.index.clear();
+    }
+
+    /// A second list with the same items.
+    pub fn copy_items(&self, alloc: Global) -> Result<MapItems, Memory>
+        ensures { IfOk result (λ x. x ≡ self.now.items) }
+    {
+        let mut out = MapItems::new(alloc);
+        while let Some(item) = self.items.at(out.len()) {
+            out.push(item.copy(alloc)?)?;
+        }
+        Ok(out)
+    }
+}

@@ -1,0 +1,149 @@
+ghost use Rattle.std.specs.Prelude.{◌≡◌, [], length, map, option_map, slice_get, IfOk, Ok, option_copied};
+ghost use Rattle.lists.specs.Rising.{find};
+ghost use Rattle.state_model.specs.declared.row.SetItem.{SetItem};
+ghost use Rattle.collection_ops.specs.Bodies.{SetState, set_number, value_item, set_add, set_remove, Gives, Exactly, IsSetKept};
+
+use crate::fault::{ItemFault, LAST_NUMBER};
+use crate::value_index::ValueIndex;
+use lists::Memory;
+use schema_model::Value;
+use state_model::{SetItem, SetItems};
+use std::alloc::Global;
+use std::marker::Model;
+use trees::Numbered;
+
+/// The items of a set, found by number, by place and by value. A call takes logarithmic time;
+/// taking an item out moves the numbers behind it.
+#[derive(Drop)]
+pub struct SetBody {
+    alloc: Global,
+    items: Numbered<SetItem>,
+    // The number of the item of each value.
+    index: ValueIndex,
+    // How many numbers were given.
+    given: u32,
+}
+
+impl Model for SetBody {
+    ghost use Rattle.collection_ops.specs.Bodies.{SetState, IsSetKept, LeadsValues};
+    ghost use Rattle.collection_ops.specs.Indexes.{value_number};
+
+    ghost Value = { SetState };
+
+    ghost view = { λ b. record { items = b.items; given = b.given } };
+
+    ghost invariant = { λ b. IsSetKept (record { items = b.items; given = b.given }) × LeadsValues b.items (value_number b.index) };
+}
+
+impl SetBody {
+    /// No items, and no number given. They take no memory.
+    pub fn new(alloc: Global) -> Result<SetBody, Memory>
+        ensures { result ≡ Ok (record { items = []; given = 0 }) }
+    {
+        Ok(SetBody {
+            alloc,
+            items: Numbered::new(alloc),
+            index: ValueIndex::new(alloc),
+            given: 0,
+        })
+    }
+
+    pub fn len(&self) -> u32
+        ensures { result ≡ length self.now.items }
+    {
+        self.items.len() as u32
+    }
+
+    /// How many item numbers were given: the next new item gets this one.
+    pub fn given(&self) -> u32
+        ensures value { result ≡ self.now.given }
+        ensures kept { IsSetKept self.now }
+    {
+        self.given
+    }
+
+    /// The value under an item number.
+    pub fn get(&self, which: u32) -> Option<&Value>
+        ensures { option_copied result ≡ option_map (λ (i : SetItem). i.value) (find set_number which self.now.items) }
+    {
+        let item = self.items.get(which)?;
+        Some(&item.value)
+    }
+
+    /// The n-th item, counted from 0.
+    pub fn at(&self, n: usize) -> Option<&SetItem>
+        ensures { option_copied result ≡ slice_get self.now.items n }
+    {
+        self.items.at(n)
+    }
+
+    /// The n-th item number, counted from 0.
+    pub fn number_at(&self, n: u32) -> Option<u32>
+        ensures { result ≡ slice_get (map set_number self.now.items) n }
+    {
+        self.items.number_at(n as usize)
+    }
+
+    /// The number of the item of a value.
+    pub fn number_of(&self, value: &Value) -> Option<u32>
+        ensures { result ≡ option_map set_number (value_item self.now.items value.now) }
+    {
+        self.index.get(value)
+    }
+
+    /// Adds an item with a value that isn't there. Answers its number.
+    pub fn add(&mut self, value: Value) -> Result<u32, ItemFault>
+        ensures { Gives (set_add self.old value) self.old self.new result }
+    {
+        if self.index.get(&value).is_some() {
+            return Err(ItemFault::Present);
+        }
+        if self.given > LAST_NUMBER {
+            return Err(ItemFault::NumbersSpent);
+        }
+        let number = self.given;
+        let copy = value.copy(self.alloc)?;
+        self.items.push(SetItem { number, value })?;
+        match self.index.put(copy, number) {
+            Ok(_) => {
+                self.given += 1;
+                Ok(number)
+            }
+            Err(_) => {
+                self.items.remove(number);
+                Err(ItemFault::Memory)
+            }
+        }
+    }
+
+    /// Takes the item of a value out. Answers its number.
+    pub fn remove(&mut self, value: &Value) -> Result<u32, ItemFault>
+        ensures { Exactly (set_remove self.old value.now) self.old self.new result }
+    {
+        let Some(number) = self.index.get(value) else {
+            return Err(ItemFault::NoItem);
+        };
+        self.index.remove(value);
+        self.items.remove(number);
+        Ok(number)
+    }
+
+    /// Takes all items out. Their numbers aren't given again.
+    pub fn clear(&mut self)
+        ensures { self.new ≡ record { items = []; given = self.old.given } }
+    {
+        self.items.clear();
+        self.index.clear();
+    }
+
+    /// A second list with the same items.
+    pub fn copy_items(&self, alloc: Global) -> Result<SetItems, Memory>
+        ensures { IfOk result (λ x. x ≡ self.now.items) }
+    {
+        let mut out = SetItems::new(alloc);
+        while let Some(item) = self.items.at(out.len()) {
+            out.push(item.copy(alloc)?)?;
+        }
+        Ok(out)
+    }
+}

@@ -1,0 +1,2 @@
+mod PlaceLaws
+pub mod TreeLaws

@@ -1,7 +1,0 @@
-use Rattle.wire_ops.proofs.TreeLaws.{next_above}
-use Rattle.wire_ops.proofs.tree.Tree.into_rising.Goals as goal
-
-pub push-requires : goal.push-requires
-push-requires g c =
-    let kept = c.loop-item.invariant in
-    next_above g.T.Keyed.key c.args.self c.loop-item.out c.loop-item.tree c.in-Some.item c.pop_first.new.self (kept.1 c.in-Some.ensures.rises) kept.0 c.in-Some.ensures.items
