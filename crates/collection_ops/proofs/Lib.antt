@@ -1,5 +1,4 @@
 mod Copies
 mod Indexed
 mod MapLaws
-mod SameValues
 mod SetLaws

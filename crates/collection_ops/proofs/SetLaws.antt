@@ -13,7 +13,7 @@ use Rattle.state_model.specs.Commands.{has_value}
 use Rattle.collection_ops.specs.declared.fault.ItemFault.TheVariants.{Present, NumbersSpent}
 use Rattle.collection_ops.specs.Bodies.{SetState, set_number, value_item, if_there, set_add, set_remove, IsSetKept, LeadsValues}
 use Rattle.collection_ops.proofs.Indexed.{all_differ, item_there, leads-push, differ-push, push_undone, item_out, leads-out, differ-filter}
-use Rattle.collection_ops.proofs.SameValues.{same_is, same_self}
+use Rattle.state_laws.proofs.SameValues.{same_is, same_self}
 
 -- the value of an item
 abbrev value_in : SetItem → Value

@@ -29,9 +29,10 @@ use Rattle.state_model.specs.Commands.{value_put, wanted_for, is_duplicate, has_
 use Rattle.state_laws.proofs.Passing.{list_any-flat_map}
 use Rattle.state_laws.proofs.Tests.{list_any-map, list_any-made, list_any_filtered, list_all_filtered}
 use Rattle.state_laws.proofs.ShownRows.{holds}
-use Rattle.state_laws.proofs.FittingRows.{rises_where, rise_where}
+use Rattle.state_laws.proofs.FittingRows.{rises_where, rise_where, keys_filtered}
+use Rattle.state_laws.proofs.SameValues.{same_value_sym}
 use Rattle.command_laws.specs.Kept.{item_numbers}
-use Rattle.command_laws.proofs.ListEdits.{list_any_put, list_all_put, list_any_set, list_all_set, list_any_removed, list_all_removed, same_value_sym, differ_pushed, differ_set, differ_removed, differ_kept, keys_kept}
+use Rattle.command_laws.proofs.ListEdits.{list_any_put, list_all_put, list_any_set, list_all_set, list_any_removed, list_all_removed, differ_pushed, differ_set, differ_removed, differ_kept}
 use Rattle.command_laws.proofs.KeyedItems.{key_of, number_in, above_numbers, list_any_value_put, list_all_value_put, list_any_number-put_key, RisesFrom-put_key, keys_differ_put}
 
 -- the parts of fields and of a set's items
@@ -266,7 +267,7 @@ edited_fits schema rows (DelKey r key) next (Map home items) put d n h =
     let two = and_parts (rise (map number_in items) && keys_differ (map key_of items)) (list_all p items) h in
     let own = and_parts (rise (map number_in items)) (keys_differ (map key_of items)) two.0 in
     and_from (rise (map number_in (filter q items)) && keys_differ (map key_of (filter q items))) (list_all p (filter q items))
-    (and_from (rise (map number_in (filter q items))) (keys_differ (map key_of (filter q items))) (rise_again number_in items (filter q items) (RisesFrom-filter number_in 0 q items) own.0) (keys_kept key_of q items own.1))
+    (and_from (rise (map number_in (filter q items))) (keys_differ (map key_of (filter q items))) (rise_again number_in items (filter q items) (RisesFrom-filter number_in 0 q items) own.0) (keys_filtered key_of q items own.1))
     (list_all_filtered p q items two.1)
 edited_fits schema rows (Push r v) next (Array home values) put d n h =
     let p = λ (u : Value). fits_place schema rows u (item_wants schema home) in

@@ -1,5 +1,5 @@
 -- Sums over the items of a map and of a set after an edit by key or by value.
-use Rattle.std.proofs.Common.{◌≡◌, ℕ, ◌+◌, ℤ, pos, negsuc, Bool, true, false, cond, not, List, [], ◌∷◌, length, map, filter, Some, None, refl, sym, ap, ◌∙◌, arith}
+use Rattle.std.proofs.Common.{◌≡◌, ℕ, ◌+◌, Bool, true, false, cond, not, List, [], ◌∷◌, length, map, filter, Some, None, refl, sym, ap, ◌∙◌, arith}
 use Rattle.std.specs.List.{sum_by, list_any, find}
 use Rattle.std.specs.Option.{option_map_or}
 use Rattle.std.specs.Str.{bytes_eq}
@@ -8,12 +8,12 @@ use Rattle.std.proofs.lemmas.Bool.Decides.{nat_tests}
 use Rattle.std.proofs.lemmas.List.Sums.{sum_by-cons}
 use Rattle.lists.proofs.SameBytes.{same_bytes, bytes_eq_sym}
 use Rattle.schema_model.specs.declared.value.Value.{Value}
-use Rattle.schema_model.specs.declared.value.Value.TheVariants as value
-use Rattle.schema_model.specs.Values.{same_value, same_whole, same_truth}
+use Rattle.schema_model.specs.Values.{same_value}
 use Rattle.state_model.specs.declared.row.MapItem.{MapItem}
 use Rattle.state_model.specs.declared.row.SetItem.{SetItem}
 use Rattle.state_model.specs.Sound.{differ, keys_differ}
 use Rattle.state_model.specs.Commands.{has_key, has_value, put_key}
+use Rattle.state_laws.proofs.SameValues.{same_is}
 use Rattle.command_laws.proofs.KeyedItems.{key_of}
 use Rattle.command_laws.proofs.EditedRows.{set_value, value_there}
 use Rattle.command_laws.proofs.ListSums.{IsSingle, sum_by-single}
@@ -74,30 +74,10 @@ key_found key (i ∷ items) =
 
 -- ---- items of a set
 
--- whole numbers that the test takes for equal are equal
-same_whole_is : (a b : ℤ) → same_whole a b ≡ true → a ≡ b
-same_whole_is (pos a) (pos b) h = ap pos (grind (arith, nat_tests))
-same_whole_is (negsuc a) (negsuc b) h = ap negsuc (grind (arith, nat_tests))
-same_whole_is a b h = cc
-
--- truth values that the test takes for equal are equal
-same_truth_is : (a b : Bool) → same_truth a b ≡ true → a ≡ b
-same_truth_is true b h = sym h
-same_truth_is false true h = cc
-same_truth_is false false h = refl
-
--- values that the test takes for equal are equal
-pub same_value_is : (a b : Value) → same_value a b ≡ true → a ≡ b
-same_value_is (value.Whole a) (value.Whole b) h = ap value.Whole (same_whole_is a b h)
-same_value_is (value.Str a) (value.Str b) h = ap value.Str (same_bytes a b h)
-same_value_is (value.Truth a) (value.Truth b) h = ap value.Truth (same_truth_is a b h)
-same_value_is (value.Link a) (value.Link b) h = ap value.Link (grind (arith, nat_tests))
-same_value_is a b h = cc
-
 -- no value like this one is among other values
 other_values : (u v : Value) (items : List SetItem) → same_value u v ≡ true → list_any (same_value u) (map set_value items) ≡ false → has_value items v ≡ false
 other_values u v items t h =
-    let same = same_value_is u v t in
+    let same = same_is u v t in
     sym (value_there v items) ∙ ap (λ (b : Value). list_any (same_value b) (map set_value items)) (sym same) ∙ h
 
 -- at most one item has a value, where values differ
@@ -112,7 +92,7 @@ value_found : (w : Value → ℕ) (v : Value) (items : List SetItem) → option_
 value_found w v [] = refl
 value_found w v (i ∷ items) =
     let go : (b : Bool) → same_value i.value v ≡ b → option_map_or (λ (j : SetItem). w j.value) (find (λ (j : SetItem). same_value j.value v) (i ∷ items)) 0 ≡ option_map_or w (cond (has_value (i ∷ items) v) (Some v) None) 0 = elim [
-      | true ↦ λ t. rw t (ap w (same_value_is i.value v t))
+      | true ↦ λ t. rw t (ap w (same_is i.value v t))
       | false ↦ λ f. rw f (value_found w v items)
     ] in
     go (same_value i.value v) refl

@@ -1,17 +1,14 @@
--- What tests of all or of any of a list's items, and values and keys that differ, say after an edit of the list.
+-- What tests of all or of any of a list's items, and values that differ, say after an edit of the list.
 use Rattle.std.proofs.Common.{◌≡◌, ℕ, zero, suc, Bool, true, false, not, ◌||◌, List, [], ◌∷◌, ◌++◌, map, filter, set, refl, ap, ◌∙◌, arith}
-use Rattle.std.specs.Prelude.{ℤ, pos, negsuc}
 use Rattle.std.specs.List.{list_any, list_all, remove}
-use Rattle.std.specs.Str.{bytes_eq}
 use Rattle.std.proofs.lemmas.Bool.{and_parts, and_from, or_parts, not-true}
 use Rattle.std.proofs.lemmas.Bool.Decides.{nat_tests}
 use Rattle.std.proofs.lemmas.List.Folds.{list_any-append}
 use Rattle.lists.specs.Rising.{put}
-use Rattle.lists.proofs.SameBytes.{bytes_eq_sym}
 use Rattle.schema_model.specs.declared.value.Value.{Value}
-use Rattle.schema_model.specs.declared.value.Value.TheVariants as value
-use Rattle.schema_model.specs.Values.{same_value, same_whole, same_truth}
-use Rattle.state_model.specs.Sound.{differ, keys_differ}
+use Rattle.schema_model.specs.Values.{same_value}
+use Rattle.state_model.specs.Sound.{differ}
+use Rattle.state_laws.proofs.SameValues.{same_value_sym}
 use Rattle.state_laws.proofs.Tests.{list_any-map, list_any_filtered}
 
 -- an item put by its key
@@ -60,39 +57,6 @@ list_all_removed p [] (suc at) h = h
 list_all_removed p (e ∷ es) zero h = grind (arith, nat_tests)
 list_all_removed p (e ∷ es) (suc at) h = grind (arith, nat_tests, list_all_removed p es at)
 
--- equal values
-
-same_whole_sym : (a b : ℤ) → same_whole a b ≡ same_whole b a
-same_whole_sym (pos a) (pos b) = grind (arith, nat_tests)
-same_whole_sym (negsuc a) (negsuc b) = grind (arith, nat_tests)
-same_whole_sym (pos a) (negsuc b) = refl
-same_whole_sym (negsuc a) (pos b) = refl
-
-same_truth_sym : (a b : Bool) → same_truth a b ≡ same_truth b a
-same_truth_sym true true = refl
-same_truth_sym true false = refl
-same_truth_sym false true = refl
-same_truth_sym false false = refl
-
--- two values are equal both ways round
-pub same_value_sym : (a b : Value) → same_value a b ≡ same_value b a
-same_value_sym (value.Whole a) (value.Whole b) = same_whole_sym a b
-same_value_sym (value.Str a) (value.Str b) = bytes_eq_sym a b
-same_value_sym (value.Truth a) (value.Truth b) = same_truth_sym a b
-same_value_sym (value.Link a) (value.Link b) = grind (arith, nat_tests)
-same_value_sym (value.Whole a) (value.Str b) = refl
-same_value_sym (value.Whole a) (value.Truth b) = refl
-same_value_sym (value.Whole a) (value.Link b) = refl
-same_value_sym (value.Str a) (value.Whole b) = refl
-same_value_sym (value.Str a) (value.Truth b) = refl
-same_value_sym (value.Str a) (value.Link b) = refl
-same_value_sym (value.Truth a) (value.Whole b) = refl
-same_value_sym (value.Truth a) (value.Str b) = refl
-same_value_sym (value.Truth a) (value.Link b) = refl
-same_value_sym (value.Link a) (value.Whole b) = refl
-same_value_sym (value.Link a) (value.Str b) = refl
-same_value_sym (value.Link a) (value.Truth b) = refl
-
 -- values that differ
 
 -- they do so with another at the end
@@ -117,14 +81,7 @@ differ_removed [] (suc at) h = h
 differ_removed (x ∷ vs) zero h = grind (arith, nat_tests)
 differ_removed (x ∷ vs) (suc at) h = grind (arith, nat_tests, list_any_removed (same_value x) vs at, differ_removed vs at)
 
--- filtered items
-
 -- the values of filtered items differ where those of the items do
 pub differ_kept : {X : Type 0} (f : X → Value) (q : X → Bool) (xs : List X) → differ (map f xs) ≡ true → differ (map f (filter q xs)) ≡ true
 differ_kept f q [] h = h
 differ_kept f q (x ∷ xs) h = grind (arith, nat_tests, list_any-map (same_value (f x)) f xs, list_any-map (same_value (f x)) f (filter q xs), list_any_filtered (λ y. same_value (f x) (f y)) q xs, differ_kept f q xs)
-
--- so do their keys
-pub keys_kept : {X : Type 0} (f : X → List ℕ) (q : X → Bool) (xs : List X) → keys_differ (map f xs) ≡ true → keys_differ (map f (filter q xs)) ≡ true
-keys_kept f q [] h = h
-keys_kept f q (x ∷ xs) h = grind (arith, nat_tests, list_any-map (bytes_eq (f x)) f xs, list_any-map (bytes_eq (f x)) f (filter q xs), list_any_filtered (λ y. bytes_eq (f x) (f y)) q xs, keys_kept f q xs)

@@ -14,6 +14,7 @@ use Rattle.state_model.specs.State.{State, ItemCount, next_item}
 use Rattle.state_model.specs.Commands.{counts_items}
 use Rattle.state_laws.proofs.Numbers.{live_at}
 use Rattle.state_laws.proofs.PermittedLaws.{no_cycle_within}
+use Rattle.state_laws.proofs.Fitting.{emptied_holds}
 use Rattle.command_laws.specs.Kept.{item_numbers, IsKept}
 use Rattle.command_laws.proofs.Accepted.{IsNew}
 use Rattle.command_laws.proofs.LinkedRows.{row_put, put_rises, put_from}
@@ -33,12 +34,6 @@ new_differs (Struct class fields) = refl
 new_differs (Map home items) = refl
 new_differs (Array home values) = refl
 new_differs (Set home items) = refl
-
-new_held : (r : Row) → held_in (emptied r) ≡ []
-new_held (Struct class fields) = refl
-new_held (Map home items) = refl
-new_held (Array home values) = refl
-new_held (Set home items) = refl
 
 new_numbers : (r : Row) → item_numbers (emptied r) ≡ []
 new_numbers (Struct class fields) = refl
@@ -78,7 +73,7 @@ new_acyclic schema s row kept new =
     let rises = sound_rises schema s.rows kept.sound in
     no_cycle_within (put_row (suc s.given) row s.rows) s.rows (put_rises s.rows (suc s.given) row rises) rises (λ n m a at t. elim (put_from s.rows (suc s.given) row n a at) [
       | inl put ↦
-          let none : is_among m (held_in row) ≡ false = ap (λ r. is_among m (held_in r)) (sym new.empty) ∙ ap (is_among m) (new_held row) in
+          let none : is_among m (held_in row) ≡ false = ap (λ r. is_among m (held_in r)) (sym new.empty) ∙ ap (is_among m) (emptied_holds row) in
           let some : is_among m (held_in row) ≡ true = ap (λ r. is_among m (held_in r)) (sym put.1) ∙ t in
           cc
       | inr old ↦ (a, old, t)

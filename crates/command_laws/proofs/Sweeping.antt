@@ -1,9 +1,8 @@
 -- Sweeping row by row: a row that nothing holds may go first, and when none is left the rows are what freeing leaves.
-use Rattle.std.proofs.Common.{◌≡◌, ℕ, zero, suc, ◌+◌, Bool, true, false, cond, not, ◌||◌, ◌==◌, List, [], ◌∷◌, length, Option, Some, None, is_some, filter, refl, sym, ap, ◌∙◌, arith, inl, inr}
+use Rattle.std.proofs.Common.{◌≡◌, ℕ, zero, suc, ◌+◌, Bool, true, false, cond, not, ◌||◌, ◌==◌, List, length, Option, Some, None, is_some, filter, refl, sym, ap, ◌∙◌, arith, inl, inr}
 use Rattle.std.specs.List.{sum_by}
 use Rattle.std.specs.Option.{option_map_or}
 use Rattle.std.proofs.lemmas.Bool.Decides.{nat_tests}
-use Rattle.std.proofs.lemmas.List.Sums.{sum_by-cons}
 use Rattle.lists.specs.Rising as rising
 use Rattle.lists.proofs.RisingLaws.{RisesFrom-filter, RisesFrom-remove, same_rising}
 use Rattle.state_model.specs.declared.row.Row.{Row}
@@ -11,6 +10,7 @@ use Rattle.state_model.specs.declared.row.RowEntry.{RowEntry}
 use Rattle.state_model.specs.Rows.{number_of, row_at, is_live, held_in}
 use Rattle.state_model.specs.Reached.{times, is_among, all_held, swept_once, freed}
 use Rattle.state_laws.proofs.Numbers.{live_row, live_at, found_same, row_chosen, held_by_row, holder_row}
+pub use Rattle.state_laws.proofs.Counts.{count_among}
 use Rattle.state_laws.proofs.FreedLaw.{freed_rises, swept_keeps}
 use Rattle.state_laws.proofs.FreedParts.{freed_within, freed_held}
 use Rattle.command_laws.specs.Accounts.{count_of, count_held}
@@ -108,11 +108,6 @@ freed_settled rows held rise =
     within_both (freed rows) rows (freed_rises rows rise) rise (λ n r s. freed_within rows n r rise s) (freed_most rows rows rise held (λ n r s. s))
 
 -- ---- how often a number is held
-
--- a number is there exactly where it stands there at least once
-pub count_among : (k : ℕ) (ns : List ℕ) → is_among k ns ≡ not (count_of k ns == 0)
-count_among k [] = refl
-count_among k (n ∷ ns) = grind (arith, nat_tests, count_among k ns, sum_by-cons (λ m. cond (m == k) 1 0) n ns)
 
 -- how often rows hold a number, as a sum over the rows
 count_held_sum : (k : ℕ) (rows : List RowEntry) → count_held k rows ≡ sum_by (λ (e : RowEntry). count_of k (held_in e.row)) rows

@@ -12,20 +12,17 @@ use Rattle.state_model.specs.Reached.{freed}
 use Rattle.state_model.specs.Sound.{has_root, are_sound}
 use Rattle.state_model.specs.State.{State, ItemCount, next_item, swept}
 use Rattle.state_model.specs.Commands.{counts_items}
-use Rattle.state_laws.proofs.Numbers.{live_row, live_at, at_live}
+use Rattle.state_laws.proofs.Numbers.{live_row, live_at, at_live, keep_same}
 use Rattle.state_laws.proofs.FreedLaw.{freed_rises}
 use Rattle.state_laws.proofs.FreedParts.{freed_within, freed_root, freed_link, freed_no_cycle}
 use Rattle.command_laws.specs.Kept.{IsKept}
 use Rattle.command_laws.proofs.SoundRows.{sound_row, sound_rises, sound_links, sound_root, sound_from, sound_elsewhere}
 use Rattle.command_laws.proofs.ItemCounts.{who_of}
 
-keep_alike : (keep : ℕ → Bool) (a b : ℕ) → a ≡ b → keep a ≡ keep b
-keep_alike keep a b h = ap keep h
-
 -- items that are chosen by their keys are found where they were and are chosen
 find_chosen : {E : Type 0} (key : E → ℕ) (keep : ℕ → Bool) (es : List E) (k : ℕ) → find key k (filter (λ e. keep (key e)) es) ≡ cond (keep k) (find key k es) None
 find_chosen key keep [] k = grind (arith, nat_tests)
-find_chosen key keep (e ∷ es) k = grind (arith, nat_tests, find_chosen key keep es k, keep_alike keep (key e) k)
+find_chosen key keep (e ∷ es) k = grind (arith, nat_tests, find_chosen key keep es k, keep_same keep (key e) k)
 
 -- what is found among the counts after a sweep
 find_swept : (s : State) (n : ℕ) → find who_of n (swept s).counts ≡ cond (is_live (freed s.rows) n) (find who_of n s.counts) None

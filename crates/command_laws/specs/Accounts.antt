@@ -1,6 +1,6 @@
 -- What a command puts into a row and takes out of it: numbers that are held, places and text.
-use Rattle.std.specs.Prelude.{◌≡◌, ℕ, ◌+◌, Bool, true, false, List, [], length, Option, Some, None, if◌then◌else◌, sum_by, ◌==◌}
-use Rattle.std.specs.List.{count_by, find, slice_get}
+use Rattle.std.specs.Prelude.{◌≡◌, ℕ, ◌+◌, Bool, true, false, List, [], length, Option, Some, None, if◌then◌else◌, sum_by}
+use Rattle.std.specs.List.{find, slice_get}
 use Rattle.std.specs.Option.{option_map, option_map_or}
 use Rattle.std.specs.Str.{bytes_eq}
 use Rattle.lists.specs.Rising as rising
@@ -18,10 +18,7 @@ use Rattle.state_model.specs.Rows.{values_in, key_bytes}
 use Rattle.state_model.specs.Reached.{all_held}
 use Rattle.state_model.specs.Sound.{places_fit, set_differs}
 use Rattle.state_model.specs.Commands.{has_key, has_value, is_no_field, is_no_item, is_present}
-
--- how often a number stands among numbers
-abbrev pub count_of : ℕ → List ℕ → ℕ
-count_of n ns = count_by (λ m. m == n) ns
+pub use Rattle.state_laws.specs.Counts.{count_of}
 
 -- how often rows hold a number
 abbrev pub count_held : ℕ → List RowEntry → ℕ

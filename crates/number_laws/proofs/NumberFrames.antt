@@ -1,9 +1,9 @@
 -- The blocks of a patch between two rows of numbers, and a state frame whose client sees what is shared.
 use Rattle.std.proofs.Common.{◌≡◌, ℕ, suc, ◌≤◌, Bool, true, false, cond, not, ◌||◌, List, [], ◌∷◌, ◌++◌, map, inl, inr, Option, Some, None, refl, sym, ap, ◌∙◌, arith, append-nil}
-use Rattle.std.specs.Prelude.{◌==◌, is_some, pos, negsuc}
+use Rattle.std.specs.Prelude.{◌==◌, is_some}
 use Rattle.std.specs.List.{flat_map, fold}
 use Rattle.std.specs.Option.{option_map, option_map_or}
-use Rattle.std.proofs.lemmas.Bool.{cases_Bool, eqb-true, eq-eqb, ne_eqb}
+use Rattle.std.proofs.lemmas.Bool.{cases_Bool, eqb-true, ne_eqb}
 use Rattle.lists.specs.Rising.{RisesFrom, find, remove}
 use Rattle.lists.proofs.RisingLaws.{RisesFrom-put, RisesFrom-remove, find-put, find-remove, same_rising}
 use Rattle.schema_model.specs.Classes.{Schema}
@@ -11,7 +11,7 @@ use Rattle.schema_model.specs.declared.value.Value.{Value}
 use Rattle.schema_model.specs.declared.value.Value.TheVariants as value
 use Rattle.state_model.specs.declared.row.RowEntry.{RowEntry}
 use Rattle.state_model.specs.declared.row.FieldValue.{FieldValue}
-use Rattle.state_model.specs.Values.{same_value, same_truth}
+use Rattle.state_model.specs.Values.{same_value}
 use Rattle.state_model.specs.declared.place.Wanted.{Wanted}
 use Rattle.state_model.specs.Places.{field_wants}
 use Rattle.wire_model.specs.declared.op.Op.{Op}
@@ -22,9 +22,11 @@ use Rattle.wire_model.specs.Effect.{Body, Fields, effect, apply_edits, put_field
 use Rattle.wire_model.specs.Patch.{place_edit, changed_place, carried, field_value, field_edits, either_number, block_of, named_in, linked_number, named_by_blocks, patch_edits, new_blocks}
 use Rattle.wire_model.specs.Frame.{patch, view_part, shared_part, state_frame, has_operation, is_blank}
 use Rattle.wire_model.specs.OpBytes.{block_bytes}
-use Rattle.plain_rows.specs.Numbers.{is_number_schema, is_number, number_rows, number_count, AreNumbers, field_index}
+use Rattle.state_laws.proofs.Numbers.{rises_with}
+use Rattle.state_laws.proofs.SameValues.{same_is, same_self}
+use Rattle.plain_rows.specs.Numbers.{is_number_schema, number_rows, number_count, AreNumbers, field_index}
 use Rattle.number_laws.specs.NumberPatch.{number_ops, root_block}
-use Rattle.number_laws.proofs.NumberPatches.{told_field_edits, IsNumberValue, number_found, rises_either, rises_numbers, find_either, find_numbers}
+use Rattle.number_laws.proofs.NumberPatches.{told_field_edits, IsNumberValue, number_found, rises_numbers, find_either, find_numbers}
 use Rattle.std.proofs.lemmas.List.Concat.{flat_map-append}
 use Rattle.std.proofs.lemmas.List.Sums.{fold-append}
 
@@ -88,20 +90,9 @@ patch_numbers s old new h a b =
 
 -- ---- a patch to the same rows is blank
 
-same_truth_self : (b : Bool) → same_truth b b ≡ true
-same_truth_self true = refl
-same_truth_self false = refl
-
-same_number_self : (v : Value) → is_number v ≡ true → same_value v v ≡ true
-same_number_self (value.Whole (pos n)) h = eq-eqb n n refl
-same_number_self (value.Whole (negsuc n)) h = eq-eqb n n refl
-same_number_self (value.Str t) h = cc
-same_number_self (value.Truth b) h = cc
-same_number_self (value.Link n) h = cc
-
 unchanged : (rows : List RowEntry) (w : Option Wanted) (i : ℕ) (u : Option Value) → IsNumberValue u → place_edit (Field i) (Field i) rows w u u ≡ []
 unchanged rows w i None n = refl
-unchanged rows w i (Some v) n = rw (same_number_self v n) refl
+unchanged rows w i (Some v) n = rw (same_self v) refl
 
 all_unchanged : (f : ℕ → List Edit) (ks : List ℕ) → ((i : ℕ) → f i ≡ []) → flat_map f ks ≡ []
 all_unchanged f [] h = refl
@@ -119,19 +110,6 @@ same_patch s fields b =
 -- the fields after operations
 abbrev fields_after : List Edit → List FieldValue → Body
 fields_after es fields = fold (λ body e. effect e body) (Fields 0 fields) es
-
--- two equal numbers are one
-same_number : (u v : Value) → is_number v ≡ true → same_value u v ≡ true → u ≡ v
-same_number (value.Whole (pos a)) (value.Whole (pos b)) n h = ap (λ m. value.Whole (pos m)) (eqb-true a b h)
-same_number (value.Whole (negsuc a)) (value.Whole (negsuc b)) n h = ap (λ m. value.Whole (negsuc m)) (eqb-true a b h)
-same_number (value.Whole (pos a)) (value.Whole (negsuc b)) n h = cc
-same_number (value.Whole (negsuc a)) (value.Whole (pos b)) n h = cc
-same_number u (value.Str t) n h = cc
-same_number u (value.Truth b) n h = cc
-same_number u (value.Link r) n h = cc
-same_number (value.Str t) (value.Whole z) n h = cc
-same_number (value.Truth b) (value.Whole z) n h = cc
-same_number (value.Link r) (value.Whole z) n h = cc
 
 -- a field's value after an edit
 field_value-put : (i : ℕ) (v : Value) (fields : List FieldValue) (k : ℕ) → field_value (put_field i v fields) k ≡ cond (i == k) (Some v) (field_value fields k)
@@ -183,7 +161,7 @@ step_value : (i : ℕ) (u v : Option Value) (fields : List FieldValue) (k : ℕ)
 step_value i None None fields k n h = cond_same (i == k) None (field_value fields k) (λ e. ap (field_value fields) (sym (eqb-true i k e)) ∙ h)
 step_value i None (Some v) fields k n h = field_value-put i v fields k
 step_value i (Some u) None fields k n h = field_value-remove i fields k
-step_value i (Some u) (Some v) fields k n h = by_test (same_value u v) (same_number u v n)
+step_value i (Some u) (Some v) fields k n h = by_test (same_value u v) (same_is u v)
   where
     by_test : (b : Bool) → (b ≡ true → u ≡ v) → field_value (cond b fields (put_field i v fields)) k ≡ cond (i == k) (Some v) (field_value fields k)
     by_test true same = cond_same (i == k) (Some v) (field_value fields k) (λ e. ap (field_value fields) (sym (eqb-true i k e)) ∙ (h ∙ ap Some (same refl)))
@@ -260,7 +238,7 @@ fields_lead s old new a b =
     let ms = map (λ (f : FieldValue). f.field) new in
     let ks = either_number ns ms in
     let lead = edits_lead (number_rows new) (field_wants s 0) old new 0 ks old (λ i. number_found (number_count s) i new b.each)
-    (rises_either ns ms (rises_numbers 0 old a.rising)) a.rising (λ i l. refl) in
+    (rises_with ns ms (rises_numbers 0 old a.rising)) a.rising (λ i l. refl) in
     let same : lead.after ≡ new = same_rising field_index 0 0 lead.after new lead.rises b.rising
     (λ k. found_by_value k lead.after ∙ (ap (option_map (λ v. let f : FieldValue = record { field = k; value = v } in f)) (lead.each k ∙ at_the_end k) ∙ sym (found_by_value k new))) in
     lead.done ∙ ap (Fields 0) same

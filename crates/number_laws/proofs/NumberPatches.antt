@@ -7,7 +7,7 @@ use Rattle.std.specs.Option.{option_map}
 use Rattle.std.proofs.lemmas.Bool.{and_parts, cases_eq, ltb-true}
 use Rattle.std.proofs.lemmas.Bool.Decides.{nat_tests}
 use Rattle.lists.specs.Rising.{RisesFrom, IsAbove, find, put}
-use Rattle.lists.proofs.RisingLaws.{RisesFrom-put, IsAbove-put, find-put, find_below, RisesFrom-lower, IsAbove-higher}
+use Rattle.lists.proofs.RisingLaws.{IsAbove-put, find-put, find_below, RisesFrom-lower, IsAbove-higher}
 use Rattle.schema_model.specs.Classes.{Schema}
 use Rattle.schema_model.specs.declared.class.Item.TheVariants as item
 use Rattle.schema_model.specs.declared.scalar.ScalarKind.TheVariants as kind
@@ -25,6 +25,7 @@ use Rattle.wire_model.specs.Edits.{told}
 use Rattle.wire_model.specs.declared.op.Op.TheVariants as op
 use Rattle.wire_model.specs.declared.op.OpValue.TheVariants as opvalue
 use Rattle.wire_model.specs.Patch.{place_edit, changed_place, carried, field_value, field_edits, either_number}
+use Rattle.state_laws.proofs.Numbers.{rises_with}
 use Rattle.plain_rows.specs.Numbers.{is_number_schema, is_number_at, is_number, number_rows, number_count, AreNumbers, field_index}
 use Rattle.plain_rows.proofs.NumberCommands.{wanted_of_number}
 use Rattle.number_laws.specs.NumberPatch.{number_op, number_ops}
@@ -80,10 +81,6 @@ above_numbers count (f ∷ fs) h =
 pub find_numbers : (i : ℕ) (fields : List FieldValue) → find (λ m. m) i (map (λ (f : FieldValue). f.field) fields) ≡ None → find field_index i fields ≡ None
 find_numbers i [] h = refl
 find_numbers i (f ∷ fs) h = grind (arith, nat_tests, find_numbers i fs)
-
-pub rises_either : (ns ms : List ℕ) → RisesFrom (λ m. m) 0 ns → RisesFrom (λ m. m) 0 (with_numbers ns ms)
-rises_either ns [] r = r
-rises_either ns (m ∷ ms) r = rises_either (with_number ns m) ms (RisesFrom-put (λ m. m) 0 m ns r (omega arith))
 
 above_either : (count : ℕ) (ns ms : List ℕ) → IsAbove (λ m. m) count ns → IsAbove (λ m. m) count ms → IsAbove (λ m. m) count (with_numbers ns ms)
 above_either count ns [] a b = a
@@ -163,7 +160,7 @@ told_field_edits s old new h a b =
     let ms = map (λ (f : FieldValue). f.field) new in
     map-flat_map told (λ i. place_edit (Field i) (Field i) (number_rows new) (field_wants s 0 i) (field_value old i) (field_value new i)) (either_number ns ms)
     ∙ (over_rising (told_edits s old new) (number_count s) 0 (either_number ns ms)
-    (rises_either ns ms (rises_numbers 0 old a.rising))
+    (rises_with ns ms (rises_numbers 0 old a.rising))
     (above_either (0 + number_count s) ns ms (subst (λ n. IsAbove (λ m. m) n ns) (omega arith) (above_numbers (number_count s) old a.each)) (subst (λ n. IsAbove (λ m. m) n ms) (omega arith) (above_numbers (number_count s) new b.each)))
     (λ i l e. absent i (find_either i ns ms e))
     ∙ flat_map-same (told_edits s old new) (λ i. number_op i (field_value old i) (field_value new i)) (range_with_len 0 (number_count s))

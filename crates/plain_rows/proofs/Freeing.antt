@@ -4,19 +4,20 @@ use Rattle.std.specs.Option.{option_map_or}
 use Rattle.std.proofs.lemmas.Bool.Decides.{nat_tests}
 use Rattle.std.proofs.lemmas.List.{length-append}
 use Rattle.std.proofs.lemmas.List.Folds.{list_any_more}
-use Rattle.std.proofs.lemmas.List.Sums.{sum_by-cons, sum_by-append}
 use Rattle.lists.specs.Rising.{RisesFrom, remove}
 use Rattle.lists.proofs.RisingLaws.{find_below, RisesFrom-filter, same_rising}
 use Rattle.state_model.specs.declared.row.Row.{Row}
 use Rattle.state_model.specs.declared.row.RowEntry.{RowEntry}
 use Rattle.state_model.specs.Rows.{number_of, row_at, is_live, held_in, rows_of}
 use Rattle.state_model.specs.Reached.{times, is_among, with_number, all_held, swept_once, freed}
-use Rattle.state_laws.proofs.Numbers.{among_with_number, live_found, live_row, live_at, found_same, row_chosen, held_by_row, holder_row}
+use Rattle.state_laws.proofs.Numbers.{among_with_number, live_found, live_row, live_at, found_same, row_chosen, held_by_row, holder_row, among_both}
+use Rattle.state_laws.proofs.Counts.{count_both, count_among}
 use Rattle.state_laws.proofs.FreedLaw.{freed_rises, swept_keeps}
-use Rattle.state_laws.proofs.FreedParts.{freed_within, freed_held}
-use Rattle.plain_rows.specs.Counts.{count_of, times_in}
+use Rattle.state_laws.proofs.FreedParts.{freed_within, freed_held, passed}
+use Rattle.state_laws.specs.Counts.{count_of}
+use Rattle.plain_rows.specs.Counts.{counted}
 use Rattle.plain_rows.specs.Links.{held_at, links_where}
-use Rattle.plain_rows.proofs.Walks.{links_fewer, among_both, row_held}
+use Rattle.plain_rows.proofs.Walks.{links_fewer, row_held}
 
 -- the greatest rows of which each but 0 is held
 
@@ -39,16 +40,6 @@ freed_greatest some rows rise held within n r s = rounds_greatest (length rows) 
 
 -- counts
 
-times_more : (n : ℕ) (ns : List ℕ) (k : ℕ) → times_in k (n ∷ ns) ≡ cond (n == k) 1 0 + times_in k ns
-times_more n ns k = sum_by-cons (λ (m : ℕ). cond (m == k) 1 0) n ns
-
-pub times_both : (ms ns : List ℕ) (k : ℕ) → times_in k (ms ++ ns) ≡ times_in k ms + times_in k ns
-times_both ms ns k = sum_by-append (λ (m : ℕ). cond (m == k) 1 0) ms ns
-
-times_held : (ns : List ℕ) (k : ℕ) → is_among k ns ≡ not (times_in k ns == 0)
-times_held [] k = refl
-times_held (n ∷ ns) k = grind (arith, nat_tests, times_more n ns k, times_held ns k)
-
 among_removed : (ns : List ℕ) (n k : ℕ) → is_among k (remove (λ m. m) n ns) ≡ (not (n == k) && is_among k ns)
 among_removed [] n k = grind (arith, nat_tests)
 among_removed (m ∷ ns) n k = grind (arith, nat_tests, among_removed ns n k)
@@ -58,12 +49,12 @@ rows_without : (rows : List RowEntry) (left : List ℕ) (n : ℕ) → is_live ro
 rows_without [] left n h = refl
 rows_without (e ∷ rows) left n h = grind (arith, nat_tests, among_removed left n e.who, rows_without rows left n)
 
-all_held_more : (k : ℕ) (e : RowEntry) (rows : List RowEntry) → times_in k (all_held (e ∷ rows)) ≡ times_in k (held_in e.row) + times_in k (all_held rows)
-all_held_more k e rows = times_both (held_in e.row) (all_held rows) k
+all_held_more : (k : ℕ) (e : RowEntry) (rows : List RowEntry) → count_of k (all_held (e ∷ rows)) ≡ count_of k (held_in e.row) + count_of k (all_held rows)
+all_held_more k e rows = count_both k (held_in e.row) (all_held rows)
 
-kept_count : (k : ℕ) (left : List ℕ) (e : RowEntry) (rows : List RowEntry) → times_in k (all_held (rows_of left (e ∷ rows))) ≡ cond (is_among e.who left) (times_in k (held_in e.row)) 0 + times_in k (all_held (rows_of left rows))
+kept_count : (k : ℕ) (left : List ℕ) (e : RowEntry) (rows : List RowEntry) → count_of k (all_held (rows_of left (e ∷ rows))) ≡ cond (is_among e.who left) (count_of k (held_in e.row)) 0 + count_of k (all_held (rows_of left rows))
 kept_count k left e rows =
-    elim (is_among e.who left) as (λ b. times_in k (all_held (cond b (e ∷ rows_of left rows) (rows_of left rows))) ≡ cond b (times_in k (held_in e.row)) 0 + times_in k (all_held (rows_of left rows))) [
+    elim (is_among e.who left) as (λ b. count_of k (all_held (cond b (e ∷ rows_of left rows) (rows_of left rows))) ≡ cond b (count_of k (held_in e.row)) 0 + count_of k (all_held (rows_of left rows))) [
       | true ↦ all_held_more k e (rows_of left rows)
       | false ↦ omega arith
     ]
@@ -81,34 +72,34 @@ none_behind : (e : RowEntry) (rows : List RowEntry) (n : ℕ) → RisesFrom numb
 none_behind e rows n r h = live_found rows n ∙ ap is_some (find_below number_of (suc e.who) rows n r (omega arith))
 
 -- without a number that was left, what its row holds is held so much less
-counts_without : (low : ℕ) (rows : List RowEntry) (left : List ℕ) (n k : ℕ) → RisesFrom number_of low rows → is_among n left ≡ true → times_in k (all_held (rows_of left rows)) ≡ times_in k (held_at rows n) + times_in k (all_held (rows_of (remove (λ m. m) n left) rows))
+counts_without : (low : ℕ) (rows : List RowEntry) (left : List ℕ) (n k : ℕ) → RisesFrom number_of low rows → is_among n left ≡ true → count_of k (all_held (rows_of left rows)) ≡ count_of k (held_at rows n) + count_of k (all_held (rows_of (remove (λ m. m) n left) rows))
 counts_without low [] left n k r h = refl
 counts_without low (e ∷ rows) left n k r h =
     let before = kept_count k left e rows in
     let after = kept_count k (remove (λ m. m) n left) e rows in
     let there = among_removed left n e.who in
-    let go : (b : Bool) → e.who == n ≡ b → times_in k (all_held (rows_of left (e ∷ rows))) ≡ times_in k (held_at (e ∷ rows) n) + times_in k (all_held (rows_of (remove (λ m. m) n left) (e ∷ rows))) = elim [
+    let go : (b : Bool) → e.who == n ≡ b → count_of k (all_held (rows_of left (e ∷ rows))) ≡ count_of k (held_at (e ∷ rows) n) + count_of k (all_held (rows_of (remove (λ m. m) n left) (e ∷ rows))) = elim [
       | true ↦ λ t.
           let same : e.who ≡ n = grind (arith, nat_tests) in
           let inside : is_among e.who left ≡ true = same_among left e.who n same ∙ h in
           let outside : is_among e.who (remove (λ m. m) n left) ≡ false = grind (arith, nat_tests) in
-          let held : times_in k (held_at (e ∷ rows) n) ≡ times_in k (held_in e.row) = ap (times_in k) (held_first e rows n same) in
-          let rest : times_in k (all_held (rows_of (remove (λ m. m) n left) rows)) ≡ times_in k (all_held (rows_of left rows)) = ap (λ rs. times_in k (all_held rs)) (rows_without rows left n (none_behind e rows n r.1 same)) in
-          let was : times_in k (all_held (rows_of left (e ∷ rows))) ≡ times_in k (held_in e.row) + times_in k (all_held (rows_of left rows)) = before ∙ ap (λ b. cond b (times_in k (held_in e.row)) 0 + times_in k (all_held (rows_of left rows))) inside in
-          let is : times_in k (all_held (rows_of (remove (λ m. m) n left) (e ∷ rows))) ≡ 0 + times_in k (all_held (rows_of (remove (λ m. m) n left) rows)) = after ∙ ap (λ b. cond b (times_in k (held_in e.row)) 0 + times_in k (all_held (rows_of (remove (λ m. m) n left) rows))) outside in
+          let held : count_of k (held_at (e ∷ rows) n) ≡ count_of k (held_in e.row) = ap (count_of k) (held_first e rows n same) in
+          let rest : count_of k (all_held (rows_of (remove (λ m. m) n left) rows)) ≡ count_of k (all_held (rows_of left rows)) = ap (λ rs. count_of k (all_held rs)) (rows_without rows left n (none_behind e rows n r.1 same)) in
+          let was : count_of k (all_held (rows_of left (e ∷ rows))) ≡ count_of k (held_in e.row) + count_of k (all_held (rows_of left rows)) = before ∙ ap (λ b. cond b (count_of k (held_in e.row)) 0 + count_of k (all_held (rows_of left rows))) inside in
+          let is : count_of k (all_held (rows_of (remove (λ m. m) n left) (e ∷ rows))) ≡ 0 + count_of k (all_held (rows_of (remove (λ m. m) n left) rows)) = after ∙ ap (λ b. cond b (count_of k (held_in e.row)) 0 + count_of k (all_held (rows_of (remove (λ m. m) n left) rows))) outside in
           omega (arith, was, is, held, rest)
       | false ↦ λ f.
           let as_before : is_among e.who (remove (λ m. m) n left) ≡ is_among e.who left = grind (arith, nat_tests) in
-          let held : times_in k (held_at (e ∷ rows) n) ≡ times_in k (held_at rows n) = ap (λ o. times_in k (option_map_or held_in o [])) (row_behind e rows n f) in
-          let kept : times_in k (all_held (rows_of (remove (λ m. m) n left) (e ∷ rows))) ≡ cond (is_among e.who left) (times_in k (held_in e.row)) 0 + times_in k (all_held (rows_of (remove (λ m. m) n left) rows)) = after ∙ ap (λ b. cond b (times_in k (held_in e.row)) 0 + times_in k (all_held (rows_of (remove (λ m. m) n left) rows))) as_before in
+          let held : count_of k (held_at (e ∷ rows) n) ≡ count_of k (held_at rows n) = ap (λ o. count_of k (option_map_or held_in o [])) (row_behind e rows n f) in
+          let kept : count_of k (all_held (rows_of (remove (λ m. m) n left) (e ∷ rows))) ≡ cond (is_among e.who left) (count_of k (held_in e.row)) 0 + count_of k (all_held (rows_of (remove (λ m. m) n left) rows)) = after ∙ ap (λ b. cond b (count_of k (held_in e.row)) 0 + count_of k (all_held (rows_of (remove (λ m. m) n left) rows))) as_before in
           omega (arith, before, kept, held, counts_without (suc e.who) rows left n k r.1 h)
     ] in
     go (e.who == n) refl
 
 -- what is left on the way: how often it is held is counted, all that nothing holds waits, and nothing is taken that stays
 pub record Freeing (rows : List RowEntry) (left waiting : List ℕ) (counts : List (ℕ × ℕ)) : Type 0 where
-  pub count : (k : ℕ) → count_of counts k ≡ times_in k (all_held (rows_of left rows))
-  pub cover : (k : ℕ) (r : Row) → row_at (rows_of left rows) k ≡ Some r → (k == 0) ≡ false → count_of counts k ≡ 0 → is_among k waiting ≡ true
+  pub count : (k : ℕ) → counted counts k ≡ count_of k (all_held (rows_of left rows))
+  pub cover : (k : ℕ) (r : Row) → row_at (rows_of left rows) k ≡ Some r → (k == 0) ≡ false → counted counts k ≡ 0 → is_among k waiting ≡ true
   pub keeps : (k : ℕ) (r : Row) → row_at (freed rows) k ≡ Some r → is_among k left ≡ true
 
 there_or_none : (o : Option Row) → cond (is_some o) o None ≡ o
@@ -117,10 +108,6 @@ there_or_none (Some r) = refl
 
 row_left : (rows : List RowEntry) (left : List ℕ) (k : ℕ) → row_at (rows_of left rows) k ≡ cond (is_among k left) (row_at rows k) None
 row_left rows left k = row_chosen (λ m. is_among m left) rows k
-
-passed : (b : Bool) (o : Option Row) (r : Row) → cond b o None ≡ Some r → (b ≡ true) × (o ≡ Some r)
-passed true o r h = (refl, h)
-passed false o r h = cc
 
 left_row : (rows : List RowEntry) (left : List ℕ) (k : ℕ) (r : Row) → row_at (rows_of left rows) k ≡ Some r → (is_among k left ≡ true) × (row_at rows k ≡ Some r)
 left_row rows left k r h = passed (is_among k left) (row_at rows k) r (sym (row_left rows left k) ∙ h)
@@ -137,21 +124,21 @@ all_left rows left r h =
     same_rising number_of 0 0 (rows_of left rows) rows (left_rises rows left r) r
     (λ k. found_same (rows_of left rows) rows k (row_left rows left k ∙ ap (λ b. cond b (row_at rows k) None) (h k ∙ live_row rows k) ∙ there_or_none (row_at rows k)))
 
-pub freeing_start : (rows : List RowEntry) (left : List ℕ) (counts : List (ℕ × ℕ)) → RisesFrom number_of 0 rows → ((k : ℕ) → is_among k left ≡ is_live rows k) → ((k : ℕ) → count_of counts k ≡ times_in k (all_held rows)) → Freeing rows left left counts
+pub freeing_start : (rows : List RowEntry) (left : List ℕ) (counts : List (ℕ × ℕ)) → RisesFrom number_of 0 rows → ((k : ℕ) → is_among k left ≡ is_live rows k) → ((k : ℕ) → counted counts k ≡ count_of k (all_held rows)) → Freeing rows left left counts
 freeing_start rows left counts rise h c = record {
-  count = λ k. c k ∙ ap (λ rs. times_in k (all_held rs)) (sym (all_left rows left rise h));
+  count = λ k. c k ∙ ap (λ rs. count_of k (all_held rs)) (sym (all_left rows left rise h));
   cover = λ k r s f z. (left_row rows left k r s).0;
   keeps = λ k r s. h k ∙ live_at rows k r (freed_within rows k r rise s);
 }
 
 -- a number is taken: it isn't 0, nothing that is left holds it, and it was left
 abbrev pub is_taken : List (ℕ × ℕ) → List ℕ → ℕ → Bool
-is_taken counts left n = not (n == 0) && (count_of counts n == 0) && is_among n left
+is_taken counts left n = not (n == 0) && (counted counts n == 0) && is_among n left
 
-held_by_left : (rows : List RowEntry) (left : List ℕ) (a n : ℕ) (q : Row) → is_among a left ≡ true → row_at rows a ≡ Some q → is_among n (held_in q) ≡ true → times_in n (all_held (rows_of left rows)) ≡ 0 → ⊥
+held_by_left : (rows : List RowEntry) (left : List ℕ) (a n : ℕ) (q : Row) → is_among a left ≡ true → row_at rows a ≡ Some q → is_among n (held_in q) ≡ true → count_of n (all_held (rows_of left rows)) ≡ 0 → ⊥
 held_by_left rows left a n q h s t z =
     let there : is_among n (all_held (rows_of left rows)) ≡ true = held_by_row (rows_of left rows) a n q (row_kept rows left a q h s) t in
-    let not_there : is_among n (all_held (rows_of left rows)) ≡ false = times_held (all_held (rows_of left rows)) n ∙ ap (λ c. not (c == 0)) z in
+    let not_there : is_among n (all_held (rows_of left rows)) ≡ false = count_among n (all_held (rows_of left rows)) ∙ ap (λ c. not (c == 0)) z in
     grind (arith, nat_tests)
 
 -- what is taken isn't among the rows that stay
@@ -159,7 +146,7 @@ taken_goes : (rows : List RowEntry) (left waiting : List ℕ) (counts : List (�
 taken_goes rows left waiting counts n r rise f t s =
     elim (freed_held rows n r rise s) [
       | inl zero_is ↦ grind (arith, nat_tests)
-      | inr p ↦ let none : count_of counts n ≡ 0 = grind (arith, nat_tests) in held_by_left rows left p.0 n p.1 (f.keeps p.0 p.1 p.2) (freed_within rows p.0 p.1 rise p.2) p.3 (sym (f.count n) ∙ none)
+      | inr p ↦ let none : counted counts n ≡ 0 = grind (arith, nat_tests) in held_by_left rows left p.0 n p.1 (f.keeps p.0 p.1 p.2) (freed_within rows p.0 p.1 rise p.2) p.3 (sym (f.count n) ∙ none)
     ]
 
 keeps_on : (rows : List RowEntry) (left waiting : List ℕ) (counts : List (ℕ × ℕ)) (n k : ℕ) (r : Row) → RisesFrom number_of 0 rows → Freeing rows left waiting counts → is_taken counts left n ≡ true → row_at (freed rows) k ≡ Some r → is_among k (remove (λ m. m) n left) ≡ true
@@ -176,21 +163,21 @@ waits_still old now more n k e f h =
     let split : is_among k old ≡ (is_among k now || is_among k (n ∷ [])) = ap (λ ns. is_among k ns) e ∙ among_both now (n ∷ []) k in
     grind (arith, nat_tests, among_both now more k)
 
-count_on : (rows : List RowEntry) (left waiting : List ℕ) (counts lowered : List (ℕ × ℕ)) (n k : ℕ) → RisesFrom number_of 0 rows → Freeing rows left waiting counts → is_among n left ≡ true → count_of lowered k ≡ count_of counts k - times_in k (held_at rows n) → count_of lowered k ≡ times_in k (all_held (rows_of (remove (λ m. m) n left) rows))
+count_on : (rows : List RowEntry) (left waiting : List ℕ) (counts lowered : List (ℕ × ℕ)) (n k : ℕ) → RisesFrom number_of 0 rows → Freeing rows left waiting counts → is_among n left ≡ true → counted lowered k ≡ counted counts k - count_of k (held_at rows n) → counted lowered k ≡ count_of k (all_held (rows_of (remove (λ m. m) n left) rows))
 count_on rows left waiting counts lowered n k rise f h c = omega (arith, c, f.count k, counts_without 0 rows left n k rise h)
 
-cover_on : (rows : List RowEntry) (left old now : List ℕ) (counts lowered : List (ℕ × ℕ)) (n k : ℕ) (r : Row) → Freeing rows left old counts → old ≡ now ++ n ∷ [] → count_of lowered k ≡ count_of counts k - times_in k (held_at rows n) → row_at (rows_of (remove (λ m. m) n left) rows) k ≡ Some r → (k == 0) ≡ false → count_of lowered k ≡ 0 → is_among k (now ++ held_at rows n) ≡ true
+cover_on : (rows : List RowEntry) (left old now : List ℕ) (counts lowered : List (ℕ × ℕ)) (n k : ℕ) (r : Row) → Freeing rows left old counts → old ≡ now ++ n ∷ [] → counted lowered k ≡ counted counts k - count_of k (held_at rows n) → row_at (rows_of (remove (λ m. m) n left) rows) k ≡ Some r → (k == 0) ≡ false → counted lowered k ≡ 0 → is_among k (now ++ held_at rows n) ≡ true
 cover_on rows left old now counts lowered n k r f e c s g z =
     let at = left_row rows (remove (λ m. m) n left) k r s in
     let apart : (n == k) ≡ false = grind (arith, nat_tests, among_removed left n k) in
     let inside : is_among k left ≡ true = grind (arith, nat_tests, among_removed left n k) in
-    let go : (b : Bool) → count_of counts k == 0 ≡ b → is_among k (now ++ held_at rows n) ≡ true = elim [
+    let go : (b : Bool) → counted counts k == 0 ≡ b → is_among k (now ++ held_at rows n) ≡ true = elim [
       | true ↦ λ t. waits_still old now (held_at rows n) n k e apart (f.cover k r (row_kept rows left k r inside at.1) g (grind (arith, nat_tests)))
-      | false ↦ λ t. let held : is_among k (held_at rows n) ≡ true = grind (arith, nat_tests, times_held (held_at rows n) k) in grind (arith, nat_tests, among_both now (held_at rows n) k)
+      | false ↦ λ t. let held : is_among k (held_at rows n) ≡ true = grind (arith, nat_tests, count_among k (held_at rows n)) in grind (arith, nat_tests, among_both now (held_at rows n) k)
     ] in
-    go (count_of counts k == 0) refl
+    go (counted counts k == 0) refl
 
-pub freeing_on : (rows : List RowEntry) (left old now : List ℕ) (counts lowered : List (ℕ × ℕ)) (n : ℕ) → RisesFrom number_of 0 rows → Freeing rows left old counts → old ≡ now ++ n ∷ [] → is_taken counts left n ≡ true → ((k : ℕ) → count_of lowered k ≡ count_of counts k - times_in k (held_at rows n)) → Freeing rows (remove (λ m. m) n left) (now ++ held_at rows n) lowered
+pub freeing_on : (rows : List RowEntry) (left old now : List ℕ) (counts lowered : List (ℕ × ℕ)) (n : ℕ) → RisesFrom number_of 0 rows → Freeing rows left old counts → old ≡ now ++ n ∷ [] → is_taken counts left n ≡ true → ((k : ℕ) → counted lowered k ≡ counted counts k - count_of k (held_at rows n)) → Freeing rows (remove (λ m. m) n left) (now ++ held_at rows n) lowered
 freeing_on rows left old now counts lowered n rise f e t c =
     let inside : is_among n left ≡ true = grind (arith, nat_tests) in
     record {
@@ -199,7 +186,7 @@ freeing_on rows left old now counts lowered n rise f e t c =
       keeps = λ k r s. keeps_on rows left old counts n k r rise f t s;
     }
 
-cover_past : (rows : List RowEntry) (left old now : List ℕ) (counts : List (ℕ × ℕ)) (n k : ℕ) (r : Row) → Freeing rows left old counts → old ≡ now ++ n ∷ [] → is_taken counts left n ≡ false → row_at (rows_of left rows) k ≡ Some r → (k == 0) ≡ false → count_of counts k ≡ 0 → is_among k now ≡ true
+cover_past : (rows : List RowEntry) (left old now : List ℕ) (counts : List (ℕ × ℕ)) (n k : ℕ) (r : Row) → Freeing rows left old counts → old ≡ now ++ n ∷ [] → is_taken counts left n ≡ false → row_at (rows_of left rows) k ≡ Some r → (k == 0) ≡ false → counted counts k ≡ 0 → is_among k now ≡ true
 cover_past rows left old now counts n k r f e t s g z =
     let at = left_row rows left k r s in
     let waits : is_among k old ≡ true = f.cover k r s g z in
@@ -223,7 +210,7 @@ held_at_end rows left counts k r f s =
     let go : (b : Bool) → is_among k (all_held (rows_of left rows)) ≡ b → (k == 0 || is_among k (all_held (rows_of left rows))) ≡ true = elim [
       | true ↦ λ t. grind (arith, nat_tests)
       | false ↦ λ t.
-          let none : count_of counts k ≡ 0 = grind (arith, nat_tests, f.count k, times_held (all_held (rows_of left rows)) k) in
+          let none : counted counts k ≡ 0 = grind (arith, nat_tests, f.count k, count_among k (all_held (rows_of left rows))) in
           let root : (k == 0) ≡ true = grind (arith, nat_tests, f.cover k r s) in
           grind (arith, nat_tests)
     ] in

@@ -8,6 +8,7 @@ use Rattle.std.proofs.lemmas.List.Folds.{list_any_more}
 use Rattle.schema_model.specs.declared.place.Pair.{Pair}
 use Rattle.state_model.specs.Values.{same_whole}
 use Rattle.state_model.specs.Shown.{is_member}
+use Rattle.state_laws.proofs.SameValues.{same_whole_sym}
 use Rattle.plain_rows.specs.Members.{pairs_of}
 
 -- the order of the keys
@@ -23,12 +24,6 @@ same_tag (pos a) (pos b) = grind (arith, nat_tests)
 same_tag (pos a) (negsuc b) = refl
 same_tag (negsuc a) (pos b) = refl
 same_tag (negsuc a) (negsuc b) = grind (arith, nat_tests)
-
-tag_same : (a b : ℤ) → same_whole a b ≡ same_whole b a
-tag_same (pos a) (pos b) = grind (arith, nat_tests)
-tag_same (pos a) (negsuc b) = refl
-tag_same (negsuc a) (pos b) = refl
-tag_same (negsuc a) (negsuc b) = grind (arith, nat_tests)
 
 at_both : (a b : ℕ) (o : Ordering) → is_eq (ordering_then (nat_cmp a b) o) ≡ (b == a && is_eq o)
 at_both a b o = grind (arith, nat_tests)
@@ -49,4 +44,4 @@ pub one_more_key : (old now : List (ℕ × ℤ)) (pairs : List Pair) (i : ℕ) (
 one_more_key old now pairs i p who tag l at e h =
     let more : is_member (take (i + 1) pairs) who tag ≡ (is_member (take i pairs) who tag || (p.who == who && same_whole p.tag tag)) = rw (← at) at (list_any_more (λ (p : Pair). (p.who == who) && same_whole p.tag tag) pairs i p l) in
     let this : is_at (pair_cmp (p.who, p.tag)) (who, tag) ≡ (who == p.who && same_whole tag p.tag) = at_pair p.who p.tag (who, tag) in
-    grind (arith, nat_tests, tag_same tag p.tag)
+    grind (arith, nat_tests, same_whole_sym tag p.tag)

@@ -1,22 +1,19 @@
 -- A put of a number to a field of a row of numbers is accepted, and the row stays one of numbers.
-use Rattle.std.proofs.Common.{◌≡◌, ℕ, zero, suc, ◌+◌, ◌^◌, ◌<◌, ◌≤◌, Bool, true, false, cond, not, ◌&&◌, ◌||◌, List, [], ◌∷◌, ◌++◌, length, map, ◌⊎◌, inl, inr, Option, Some, None, Result, Ok, refl, sym, ap, ◌∙◌, subst, arith}
+use Rattle.std.proofs.Common.{◌≡◌, ℕ, suc, ◌+◌, ◌^◌, ◌<◌, ◌≤◌, Bool, true, false, ◌&&◌, List, [], ◌∷◌, length, ◌⊎◌, inl, inr, Option, Some, None, Result, Ok, refl, sym, ap, ◌∙◌, subst, arith}
 use Rattle.std.specs.Prelude.{nat_lt, nat_le, ◌==◌, ℤ, is_none, sum_by}
 use Rattle.std.specs.List.{list_all}
-use Rattle.std.proofs.lemmas.Bool.{and_parts, and_from, eqb-true, eq-eqb, leb-true, ltb-true, lt-ltb, le-leb, lt-leb, cases_Bool, and_right, le-ltb}
+use Rattle.std.proofs.lemmas.Bool.{and_parts, and_from, eqb-true, eq-eqb, ltb-true, lt-ltb, lt-leb, cases_Bool, and_right, le-ltb}
 use Rattle.std.proofs.lemmas.List.{length-map}
 use Rattle.std.proofs.lemmas.List.Folds.{sum_by-zero}
-use Rattle.std.proofs.lemmas.Bool.Decides.{nat_tests}
 use Rattle.lists.specs.Rising.{RisesFrom, find, put}
 use Rattle.lists.proofs.RisingLaws.{RisesFrom-put}
 use Rattle.schema_model.specs.Classes.{Schema}
-use Rattle.schema_model.specs.Fits.{in_signed, in_range}
-use Rattle.schema_model.specs.declared.class.Class.{Class}
+use Rattle.schema_model.specs.Fits.{in_signed}
 use Rattle.schema_model.specs.declared.class.Item.TheVariants as item
 use Rattle.schema_model.specs.declared.scalar.ScalarKind.TheVariants as kind
 use Rattle.schema_model.specs.declared.value.Value.{Value}
 use Rattle.schema_model.specs.declared.value.Value.TheVariants as value
 use Rattle.state_model.specs.declared.row.Row.TheVariants.{Struct}
-use Rattle.state_model.specs.declared.row.RowEntry.{RowEntry}
 use Rattle.state_model.specs.declared.row.FieldValue.{FieldValue}
 use Rattle.state_model.specs.declared.command.Command.TheVariants as command
 use Rattle.state_model.specs.Values.{text_size}
@@ -28,8 +25,8 @@ use Rattle.state_model.specs.State.{State}
 use Rattle.state_model.specs.Commands.{do_command, first_cause, answer_of, is_wrong_type, is_past_range}
 use Rattle.state_model.specs.declared.command.TableFault.{TableFault}
 use Rattle.state_model.specs.declared.command.TableFault.TheVariants as fault
-use Rattle.plain_rows.specs.Numbers.{is_number_schema, is_number_class, is_number_at, is_number, number_rows, number_count, AreNumbers, field_index}
-use Rattle.plain_rows.proofs.NumberViews.{one_class, one_class_of, number_wanted, number_class_parts}
+use Rattle.plain_rows.specs.Numbers.{is_number_schema, is_number_at, is_number, number_rows, number_count, AreNumbers, field_index}
+use Rattle.plain_rows.proofs.NumberViews.{one_class_of, number_wanted, number_class_parts}
 
 -- a field with a number
 abbrev pub number_at : ℕ → ℤ → FieldValue

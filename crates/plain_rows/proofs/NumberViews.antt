@@ -1,11 +1,10 @@
 -- The views of a row of numbers are the row itself, and nothing of it is ever freed.
-use Rattle.std.proofs.Common.{◌≡◌, ℕ, zero, suc, ◌+◌, ◌<◌, ◌≤◌, Bool, true, false, cond, not, ◌&&◌, ◌||◌, List, [], ◌∷◌, ◌++◌, length, map, Option, Some, None, refl, sym, ap, ◌∙◌, subst, arith}
-use Rattle.std.specs.Prelude.{slice_get, is_none, nat_lt, nat_le, ◌==◌, ℤ, unwrap_or}
-use Rattle.std.specs.List.{list_all, flat_map, filter}
+use Rattle.std.proofs.Common.{◌≡◌, ℕ, zero, suc, ◌<◌, ◌≤◌, Bool, true, List, [], ◌∷◌, length, map, Option, Some, None, refl, sym, ap, ◌∙◌, subst, arith}
+use Rattle.std.specs.Prelude.{slice_get, is_none, ℤ}
+use Rattle.std.specs.List.{list_all, filter}
 use Rattle.std.specs.Option.{option_map}
-use Rattle.std.proofs.lemmas.Bool.{and_parts, eqb-true, leb-true, ltb-true}
-use Rattle.std.proofs.lemmas.Bool.Decides.{nat_tests}
-use Rattle.schema_model.specs.Classes.{Schema, Declared, fields_of, field_of, inherited, fields_from}
+use Rattle.std.proofs.lemmas.Bool.{and_parts, eqb-true, leb-true}
+use Rattle.schema_model.specs.Classes.{Schema, Declared, fields_of, field_of, inherited}
 use Rattle.schema_model.specs.declared.class.Class.{Class}
 use Rattle.schema_model.specs.declared.class.FieldDecl.{FieldDecl}
 use Rattle.schema_model.specs.declared.class.Shape.{Shape}
@@ -15,13 +14,11 @@ use Rattle.schema_model.specs.declared.scalar.ScalarKind.TheVariants as kind
 use Rattle.schema_model.specs.declared.place.Pair.{Pair}
 use Rattle.schema_model.specs.declared.value.Value.{Value}
 use Rattle.schema_model.specs.declared.value.Value.TheVariants as value
-use Rattle.state_model.specs.declared.row.Row.{Row}
 use Rattle.state_model.specs.declared.row.Row.TheVariants.{Struct}
 use Rattle.state_model.specs.declared.row.RowEntry.{RowEntry}
 use Rattle.state_model.specs.declared.row.FieldValue.{FieldValue}
 use Rattle.state_model.specs.Values.{held_by}
 use Rattle.state_model.specs.Rows.{held_in, rows_of}
-use Rattle.state_model.specs.declared.place.Wanted.{Wanted}
 use Rattle.state_model.specs.declared.place.Wanted.TheVariants.{Item as AnItem}
 use Rattle.state_model.specs.Places.{field_wants, wanted_of}
 use Rattle.state_model.specs.Reached.{freed, reached}

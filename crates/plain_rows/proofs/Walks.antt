@@ -2,7 +2,6 @@
 use Rattle.std.proofs.Common.{◌≡◌, ℕ, ◌+◌, ◌≤◌, ◌<◌, Bool, true, false, cond, not, ◌||◌, ◌==◌, List, [], ◌∷◌, ◌++◌, length, length-append, Option, Some, None, sum_by, refl, sym, ap, ◌∙◌, arith}
 use Rattle.std.specs.Option.{option_map, option_map_or}
 use Rattle.std.proofs.lemmas.Bool.Decides.{nat_tests}
-use Rattle.std.proofs.lemmas.List.Folds.{list_any-append}
 use Rattle.std.proofs.lemmas.List.Sums.{sum_by-cons}
 use Rattle.lists.specs.Rising.{RisesFrom, find}
 use Rattle.lists.proofs.RisingLaws.{RisesFrom-put, put_found, same_rising}
@@ -10,8 +9,9 @@ use Rattle.state_model.specs.declared.row.Row.{Row}
 use Rattle.state_model.specs.declared.row.RowEntry.{RowEntry}
 use Rattle.state_model.specs.Rows.{number_of, row_at, held_in}
 use Rattle.state_model.specs.Reached.{is_among, with_number, reached}
-use Rattle.state_laws.proofs.Numbers.{among_with_number}
+use Rattle.state_laws.proofs.Numbers.{among_with_number, among_both, keep_same}
 use Rattle.state_laws.proofs.ReachedLaws.{reached_start, reached_closed, reached_least, reached_rises}
+use Rattle.state_laws.proofs.Tests.{both_ways}
 use Rattle.plain_rows.specs.Links.{held_at, links_where}
 
 -- the sizes of the items whose keys pass
@@ -26,14 +26,11 @@ sizes_narrower : {E : Type 0} (key size : E → ℕ) (p q : ℕ → Bool) (es : 
 sizes_narrower key size p q [] h = omega arith
 sizes_narrower key size p q (e ∷ es) h = grind (arith, nat_tests, one_more key size p e es, one_more key size q e es, h (key e), sizes_narrower key size p q es h)
 
-same_test : (p : ℕ → Bool) (a b : ℕ) → a ≡ b → p a ≡ p b
-same_test p a b h = ap p h
-
 -- without a key that passed, they are less by the size of its item
 sizes_fewer : {E : Type 0} (key size : E → ℕ) (p q : ℕ → Bool) (es : List E) (n : ℕ) → ((k : ℕ) → p k ≡ true → q k ≡ true) → q n ≡ true → p n ≡ false → sizes_where key size p es + option_map_or size (find key n es) 0 ≤ sizes_where key size q es
 sizes_fewer key size p q [] n h t f = omega arith
 sizes_fewer key size p q (e ∷ es) n h t f =
-    grind (arith, nat_tests, one_more key size p e es, one_more key size q e es, h (key e), same_test p (key e) n, same_test q (key e) n, sizes_narrower key size p q es h, sizes_fewer key size p q es n h t f)
+    grind (arith, nat_tests, one_more key size p e es, one_more key size q e es, h (key e), keep_same p (key e) n, keep_same q (key e) n, sizes_narrower key size p q es h, sizes_fewer key size p q es n h t f)
 
 held_size : (o : Option RowEntry) → length (option_map_or held_in (option_map (λ (e : RowEntry). e.row) o) []) ≡ option_map_or (λ (e : RowEntry). length (held_in e.row)) o 0
 held_size None = refl
@@ -52,9 +49,6 @@ pub record Walked (rows : List RowEntry) (from : ℕ) (seen waiting : List ℕ) 
   pub within : (k : ℕ) → (is_among k seen || is_among k waiting) ≡ true → is_among k (reached rows from) ≡ true
   pub closed : (a b : ℕ) (r : Row) → is_among a seen ≡ true → row_at rows a ≡ Some r → is_among b (held_in r) ≡ true → (is_among b seen || is_among b waiting) ≡ true
 
-pub among_both : (xs ys : List ℕ) (k : ℕ) → is_among k (xs ++ ys) ≡ (is_among k xs || is_among k ys)
-among_both xs ys k = list_any-append (λ m. m == k) xs ys
-
 from_start : (rows : List RowEntry) (from k : ℕ) → is_among k (from ∷ []) ≡ true → is_among k (reached rows from) ≡ true
 from_start rows from k h =
     let same : from ≡ k = grind (arith, nat_tests) in
@@ -72,7 +66,7 @@ walk_start rows from = record {
 among_again : (seen old now : List ℕ) (n k : ℕ) → old ≡ now ++ n ∷ [] → is_among n seen ≡ true → (is_among k seen || is_among k old) ≡ (is_among k seen || is_among k now)
 among_again seen old now n k e h =
     let split : is_among k old ≡ (is_among k now || is_among k (n ∷ [])) = ap (λ ns. is_among k ns) e ∙ among_both now (n ∷ []) k in
-    grind (arith, nat_tests, same_test (λ m. is_among m seen) n k)
+    grind (arith, nat_tests, keep_same (λ m. is_among m seen) n k)
 
 pub walk_past : (rows : List RowEntry) (from : ℕ) (seen old now : List ℕ) (n : ℕ) → Walked rows from seen old → old ≡ now ++ n ∷ [] → is_among n seen ≡ true → Walked rows from seen now
 walk_past rows from seen old now n w e h = record {
@@ -134,11 +128,6 @@ found_number (m ∷ ns) k = grind (arith, nat_tests, found_number ns k)
 
 pub same_numbers : (xs ys : List ℕ) → RisesFrom (λ m. m) 0 xs → RisesFrom (λ m. m) 0 ys → ((k : ℕ) → is_among k xs ≡ is_among k ys) → xs ≡ ys
 same_numbers xs ys r s h = same_rising (λ m. m) 0 0 xs ys r s (λ k. found_number xs k ∙ ap (λ b. cond b (Some k) None) (h k) ∙ sym (found_number ys k))
-
-pub both_ways : (a b : Bool) → (a ≡ true → b ≡ true) → (b ≡ true → a ≡ true) → a ≡ b
-both_ways true b f g = sym (f refl)
-both_ways false true f g = g refl
-both_ways false false f g = refl
 
 nothing_waits : (seen : List ℕ) (k : ℕ) → (is_among k seen || is_among k []) ≡ true → is_among k seen ≡ true
 nothing_waits seen k h = grind (arith, nat_tests)

@@ -1,5 +1,5 @@
 -- States that are one row of numbers: the class of the root alone, with fields of kind `number` that everybody sees.
-use Rattle.std.specs.Prelude.{◌≡◌, ℕ, ◌^◌, Bool, true, false, ◌&&◌, List, [], ◌∷◌, length, Option, Some, None, is_none, nat_lt, nat_le, ◌==◌}
+use Rattle.std.specs.Prelude.{◌≡◌, ℕ, ◌^◌, Bool, true, false, ◌&&◌, List, [], ◌∷◌, length, is_none, nat_lt, nat_le, ◌==◌}
 use Rattle.std.specs.List.{list_all}
 use Rattle.lists.specs.Rising.{RisesFrom}
 use Rattle.schema_model.specs.Classes.{Schema}

@@ -3,7 +3,7 @@ ghost use Rattle.std.specs.Prelude.{◌≡◌, ◌&&◌, ◌==◌, ℕ, not, IfO
 ghost use Rattle.lists.specs.Rising.{RisesFrom, remove as without};
 ghost use Rattle.state_model.specs.Rows.{is_live, number_of, rows_of as rows_of_numbers};
 ghost use Rattle.state_model.specs.Reached.{all_held, freed as freed_rows, is_among};
-ghost use Rattle.plain_rows.specs.Counts.{count_of};
+ghost use Rattle.plain_rows.specs.Counts.{counted};
 
 use crate::chosen::rows_of;
 use crate::holder_counts::HolderCounts;
@@ -39,7 +39,7 @@ fn all_links(alloc: Global, rows: &Rows) -> Result<Vec<RefNum>, Memory>
 // Takes a number other than 0 that nothing holds out of those left, and answers whether it was
 // there.
 fn take_unheld(number: RefNum, counts: &HolderCounts, left: &mut NumberSet) -> bool
-    ensures taken { result ≡ (not (number == 0) && (count_of counts.now number == 0) && is_among number left.old) }
+    ensures taken { result ≡ (not (number == 0) && (counted counts.now number == 0) && is_among number left.old) }
     ensures rest { left.new ≡ (if result then without (λ n. n) number left.old else left.old) }
 {
     if number.0 == 0 || counts.is_held(number) || !left.has(number) {

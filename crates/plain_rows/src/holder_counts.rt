@@ -1,6 +1,7 @@
 //! How many places hold each number.
 ghost use Rattle.std.specs.Prelude.{◌≡◌, ◌-◌, ◌==◌, ℕ, not, IfOk};
-ghost use Rattle.plain_rows.specs.Counts.{count_of, times_in};
+ghost use Rattle.state_laws.specs.Counts.{count_of};
+ghost use Rattle.plain_rows.specs.Counts.{counted};
 
 use schema_model::{Memory, RefNum};
 use std::alloc::Global;
@@ -24,7 +25,7 @@ impl Model for HolderCounts {
 impl HolderCounts {
     /// How often each number stands among these.
     pub fn of(alloc: Global, links: &[RefNum]) -> Result<HolderCounts, Memory>
-        ensures { IfOk result (λ counts. (k : ℕ) → count_of counts k ≡ times_in k links.now) }
+        ensures { IfOk result (λ counts. (k : ℕ) → counted counts k ≡ count_of k links.now) }
     {
         let mut counts = BTreeMap::new(alloc);
         for link in links {
@@ -36,14 +37,14 @@ impl HolderCounts {
 
     /// A place holds the number.
     pub fn is_held(&self, number: RefNum) -> bool
-        ensures { result ≡ not (count_of self.now number == 0) }
+        ensures { result ≡ not (counted self.now number == 0) }
     {
         self.counts.get(&number.0).copied().unwrap_or(0) != 0
     }
 
     /// One place fewer for each of these.
     pub fn lower(&mut self, links: &[RefNum])
-        ensures { (k : ℕ) → count_of self.new k ≡ count_of self.old k - times_in k links.now }
+        ensures { (k : ℕ) → counted self.new k ≡ counted self.old k - count_of k links.now }
     {
         for link in links {
             if let Some(count) = self.counts.get_mut(&link.0) {

@@ -1,5 +1,5 @@
 -- The three promises hold of the events of every schedule.
-use Rattle.std.proofs.Common.{◌≡◌, ◌≤◌, ℕ, zero, suc, true, false, List, [], ◌∷◌, ◌++◌, length, map, take, Option, Some, None, refl, sym, ap, subst, ◌∙◌, arith, codes, leb-true}
+use Rattle.std.proofs.Common.{◌≡◌, ◌≤◌, ℕ, zero, suc, true, List, [], ◌∷◌, ◌++◌, length, map, take, Option, Some, None, refl, sym, ap, subst, ◌∙◌, codes, leb-true}
 use Rattle.std.specs.Prelude.{IfSome}
 use Rattle.std.specs.List.{list_all}
 use Rattle.std.proofs.lemmas.Bool.{and_parts, and_from}
@@ -15,14 +15,13 @@ use Rattle.life_laws.proofs.Kept.{courses_keep}
 use Rattle.plain_rows.specs.Numbers.{number_count}
 use Rattle.room_model.specs.declared.definition.RoomDef.{RoomDef}
 use Rattle.schema_model.specs.Classes.{Schema}
-use Rattle.text_model.specs.declared.path.FirstPath.{FirstPath}
 use Rattle.text_model.specs.declared.path.Item.{Item}
 use Rattle.text_model.specs.declared.path.Item.TheVariants.{At, Ask, Open, Acknowledge, Put, Tick}
-use Rattle.text_model.specs.Paths.{Path, is_path, first_path, items_of, path_schema, number_field, event_of, events_of, is_turn, is_later_turn, is_definition, is_within, IsTextOf}
+use Rattle.text_model.specs.Paths.{Path, is_path, first_path, path_schema, number_field, event_of, events_of, is_turn, is_later_turn, is_definition, is_within, IsTextOf}
 use Rattle.text_model.specs.Marks.{is_room_name}
-use Rattle.text_model.proofs.PathForms.{Fits, fits_of}
+use Rattle.text_model.proofs.PathForms.{fits_of}
 use Rattle.path_hub.proofs.PathPlays.{path_numbers}
-use Rattle.room_server.specs.Promised.{KeepsPromises, KeepsFirst, KeepsTaken}
+use Rattle.room_server.specs.Promised.{KeepsPromises, KeepsTaken}
 
 -- ---- a schedule is such a course
 

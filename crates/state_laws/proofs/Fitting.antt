@@ -1,5 +1,5 @@
 -- Values that fit what is declared: what they need of the rows that they lead to, and that filtered places still fit.
-use Rattle.std.proofs.Common.{◌≡◌, ℕ, true, false, List, Option, Some, None, refl, sym, ap, ◌∙◌, arith}
+use Rattle.std.proofs.Common.{◌≡◌, ℕ, true, false, List, [], Option, Some, None, refl, sym, ap, ◌∙◌, arith}
 use Rattle.std.specs.Option.{option_map_or}
 use Rattle.std.proofs.lemmas.Bool.Decides.{nat_tests}
 use Rattle.schema_model.specs.declared.value.Value.{Value}
@@ -14,7 +14,7 @@ use Rattle.state_model.specs.declared.row.Row.{Row}
 use Rattle.state_model.specs.declared.row.Row.TheVariants.{Struct, Map, Array, Set}
 use Rattle.state_model.specs.declared.row.RowEntry.{RowEntry}
 use Rattle.state_model.specs.Values.{held_by}
-use Rattle.state_model.specs.Rows.{row_at, is_live, emptied}
+use Rattle.state_model.specs.Rows.{row_at, is_live, held_in, emptied}
 use Rattle.state_model.specs.declared.place.Wanted.{Wanted}
 use Rattle.state_model.specs.declared.place.Wanted.TheVariants.{Item as AnItem, Collection as ACollection}
 use Rattle.state_model.specs.Places.{empty_collection, same_kind, same_home, row_home, row_class}
@@ -38,6 +38,13 @@ emptied_home (Struct class fields) = refl
 emptied_home (Map home items) = refl
 emptied_home (Array home values) = refl
 emptied_home (Set home items) = refl
+
+-- an empty row holds nothing
+pub emptied_holds : (r : Row) → held_in (emptied r) ≡ []
+emptied_holds (Struct class fields) = refl
+emptied_holds (Map home items) = refl
+emptied_holds (Array home values) = refl
+emptied_holds (Set home items) = refl
 
 -- rows of one kind are of one class
 pub same_class : (a b : Row) → emptied a ≡ emptied b → row_class a ≡ row_class b

@@ -55,12 +55,12 @@ module _ {E : Type 0} (key : E → ℕ) where
   rise_filtered q xs h = rise_where 0 (filter q xs) (RisesFrom-filter key 0 q xs (rises_where xs h))
 
 -- values that differ do so when filtered
-differ_filtered : (q : Value → Bool) (vs : List Value) → differ vs ≡ true → differ (filter q vs) ≡ true
+pub differ_filtered : (q : Value → Bool) (vs : List Value) → differ vs ≡ true → differ (filter q vs) ≡ true
 differ_filtered q [] h = h
 differ_filtered q (v ∷ vs) h = grind (arith, nat_tests, list_any_filtered (same_value v) q vs, differ_filtered q vs)
 
 -- keys that differ do so when filtered
-keys_filtered : {X : Type 0} (f : X → List ℕ) (q : X → Bool) (xs : List X) → keys_differ (map f xs) ≡ true → keys_differ (map f (filter q xs)) ≡ true
+pub keys_filtered : {X : Type 0} (f : X → List ℕ) (q : X → Bool) (xs : List X) → keys_differ (map f xs) ≡ true → keys_differ (map f (filter q xs)) ≡ true
 keys_filtered f q [] h = h
 keys_filtered f q (x ∷ xs) h = grind (arith, nat_tests, list_any-map (bytes_eq (f x)) f xs, list_any-map (bytes_eq (f x)) f (filter q xs), list_any_filtered (λ y. bytes_eq (f x) (f y)) q xs, keys_filtered f q xs)
 

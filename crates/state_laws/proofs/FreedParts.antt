@@ -116,7 +116,7 @@ led rows = rows_of (reached rows 0) rows
 abbrev unled : List RowEntry → List RowEntry
 unled rows = filter (λ (e : RowEntry). not (is_among e.who (reached rows 0))) rows
 
-passed : (b : Bool) (o : Option Row) (r : Row) → cond b o None ≡ Some r → (b ≡ true) × (o ≡ Some r)
+pub passed : (b : Bool) (o : Option Row) (r : Row) → cond b o None ≡ Some r → (b ≡ true) × (o ≡ Some r)
 passed true o r h = (refl, h)
 passed false o r h = cc
 

@@ -1,10 +1,12 @@
 pub mod Joins
 pub mod Passing
 pub mod Numbers
+pub mod Counts
 pub mod ReachedLaws
 pub mod FreedLaw
 pub mod FreedParts
 pub mod Tests
+pub mod SameValues
 pub mod ShownRows
 pub mod PermittedLaws
 pub mod Fitting

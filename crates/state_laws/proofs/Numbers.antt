@@ -1,5 +1,5 @@
 -- Numbers among lists of numbers, rows by their numbers, and which rows hold a number.
-use Rattle.std.proofs.Common.{◌≡◌, ℕ, Bool, true, false, cond, ◌&&◌, ◌||◌, ◌==◌, List, [], ◌∷◌, Option, Some, None, is_some, filter, refl, sym, ap, ◌∙◌, arith}
+use Rattle.std.proofs.Common.{◌≡◌, ℕ, Bool, true, false, cond, ◌&&◌, ◌||◌, ◌==◌, List, [], ◌∷◌, ◌++◌, Option, Some, None, is_some, filter, refl, sym, ap, ◌∙◌, arith}
 use Rattle.std.specs.List.{list_any}
 use Rattle.std.specs.Option.{option_map}
 use Rattle.std.proofs.lemmas.Bool.Decides.{nat_tests}
@@ -11,6 +11,7 @@ use Rattle.state_model.specs.Rows.{number_of, row_at, is_live, held_in, rows_of}
 use Rattle.state_model.specs.Reached.{is_among, with_number, with_numbers, all_held, grown}
 use Rattle.state_laws.proofs.Passing.{list_any-flat_map, list_any-filter, list_any-found, found_passing}
 use Rattle.std.proofs.lemmas.Bool.{and_parts}
+use Rattle.std.proofs.lemmas.List.Folds.{list_any-append}
 
 -- a number that is there and passes is one that passes
 pub among_passes : (p : ℕ → Bool) (ns : List ℕ) (n : ℕ) → is_among n ns ≡ true → p n ≡ true → list_any p ns ≡ true
@@ -26,6 +27,10 @@ passing_among p (m ∷ ns) h =
       | false ↦ λ f. let rest = passing_among p ns (rw f at h) in (rest.0, grind (arith, nat_tests), rest.2)
     ] in
     go (p m) refl
+
+-- a number is in two lists, one behind the other, where it is in either
+pub among_both : (ns ms : List ℕ) (k : ℕ) → is_among k (ns ++ ms) ≡ (is_among k ns || is_among k ms)
+among_both ns ms k = list_any-append (λ m. m == k) ns ms
 
 -- the numbers with one more have that one and no other new one
 pub among_with_number : (ns : List ℕ) (n k : ℕ) → is_among k (with_number ns n) ≡ (n == k || is_among k ns)
@@ -52,7 +57,8 @@ pub live_row : (rows : List RowEntry) (n : ℕ) → is_live rows n ≡ is_some (
 live_row [] n = refl
 live_row (e ∷ rows) n = grind (arith, nat_tests, live_row rows n)
 
-mapped_some : {A B : Type 0} (f : A → B) (o : Option A) (b : B) → option_map f o ≡ Some b → (a : A) × (o ≡ Some a) × (f a ≡ b)
+-- what is made of an item is made of a present one
+pub mapped_some : {A B : Type 0} (f : A → B) (o : Option A) (b : B) → option_map f o ≡ Some b → (a : A) × (o ≡ Some a) × (f a ≡ b)
 mapped_some f None b h = cc
 mapped_some f (Some a) b h = (a, refl, cc)
 
@@ -100,7 +106,8 @@ at_live rows n h =
     ] in
     go (row_at rows n) refl
 
-keep_same : (keep : ℕ → Bool) (a b : ℕ) → a ≡ b → keep a ≡ keep b
+-- a test answers alike for equal numbers
+pub keep_same : (keep : ℕ → Bool) (a b : ℕ) → a ≡ b → keep a ≡ keep b
 keep_same keep a b h = ap keep h
 
 -- rows that are chosen by their numbers are there where they were and are chosen

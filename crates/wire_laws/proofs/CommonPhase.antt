@@ -101,7 +101,8 @@ abbrev pub AreAmong : List RowEntry → List RowEntry → Type 0
 AreAmong new [] = Unit {0}
 AreAmong new (e ∷ es) = (row_at new e.who ≡ Some e.row) × AreAmong new es
 
-named_block : (n : ℕ) (es : List Edit) → named_by_blocks (block_of n es) ≡ named_in es
+-- a block names what its operations name
+pub named_block : (n : ℕ) (es : List Edit) → named_by_blocks (block_of n es) ≡ named_in es
 named_block n [] = refl
 named_block n (e ∷ es) = append-nil (named_in (e ∷ es))
 

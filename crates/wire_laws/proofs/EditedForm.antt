@@ -2,7 +2,6 @@
 use Rattle.std.proofs.Common.{◌≡◌, ℕ, suc, ◌<◌, Bool, true, false, not, ◌||◌, ◌==◌, List, [], ◌∷◌, ◌++◌, map, filter, Option, Some, None, cond, refl, sym, ap, ◌∙◌, subst, arith}
 use Rattle.std.specs.List.{list_all, list_any}
 use Rattle.std.specs.Str.{bytes_eq}
-use Rattle.std.proofs.lemmas.Bool.{and_parts, eqb-true}
 use Rattle.std.proofs.lemmas.Bool.Decides.{nat_tests}
 use Rattle.lists.proofs.SameBytes.{bytes_eq_sym}
 use Rattle.lists.specs.Rising.{RisesFrom, put}
@@ -20,13 +19,14 @@ use Rattle.state_model.specs.declared.row.SetItem.{SetItem}
 use Rattle.state_model.specs.Values.{same_value, is_link}
 use Rattle.state_model.specs.Rows.{emptied}
 use Rattle.state_model.specs.Sound.{differ, keys_differ}
-use Rattle.state_model.specs.Places.{is_filtered, same_kind, same_home}
+use Rattle.state_model.specs.Places.{is_filtered, same_kind}
 use Rattle.wire_model.specs.declared.op.OpKey.TheVariants.{Field, Item, Named}
 use Rattle.wire_model.specs.Edits.{Edit, Add, Replace, DeleteAdd, Delete, Clear, AddByRef, DeleteByRef, carried_value}
 use Rattle.wire_model.specs.Effect.{Body, Fields, Items, Slots, Elements, closed, closed_slots, effect, edited_row, put_named, put_value, without_key, push_link, drop_link, has_link}
 use Rattle.wire_model.specs.Patch.{row_edits, whole_edits, whole_start, ref_edits, slot_edits}
 use Rattle.wire_laws.proofs.Forms.{IsFormed}
 use Rattle.wire_laws.proofs.EditSteps.{edited_keeps, all_each, all-append, closed_slots-push, all-drop_link, ref_edits_pass, start_passes}
+use Rattle.wire_laws.proofs.KindLaws.{home_is}
 
 -- ---- the kind of a row
 
@@ -248,16 +248,6 @@ suited_formed schema es c s f =
     (edited_keeps (λ r. (emptied r ≡ emptied c) × IsFormed schema r) (suits schema (emptied c))
     (λ e b t p. (effect_kind e b ∙ p.0, formed_effect schema e b (ap (λ r. suits schema r e) p.0 ∙ t) p.1)) es c s (refl, f)).1
 
--- homes with one class and one field are one
-home_with : (c f d g : ℕ) → c ≡ d → f ≡ g → (let x : Home = record { class = c; field = f } in x) ≡ record { class = d; field = g }
-home_with c f d g p q = cc
-
--- homes that are tested to be one are one
-home_from_same : (a b : Home) → same_home a b ≡ true → a ≡ b
-home_from_same a b h =
-    let two = and_parts (a.class == b.class) (a.field == b.field) h in
-    home_with a.class a.field b.class b.field (eqb-true a.class b.class two.0) (eqb-true a.field b.field two.1)
-
 -- the operations on an array suit arrays of its home
 array_suits : (schema : Schema) (rows : List RowEntry) (home : Home) (old new : List Value) (filtered : Bool)
     → list_all (λ e. not filtered || goes_by_link e) (cond filtered (ref_edits schema rows home old new) (slot_edits schema rows home old new)) ≡ true
@@ -273,7 +263,7 @@ row_suits schema rows a (Struct class fields) (Array home values) k = cc
 row_suits schema rows a (Map other items) (Array home values) k = cc
 row_suits schema rows a (Set other items) (Array home values) k = cc
 row_suits schema rows (Array first old) (Array other new) (Array home values) k =
-    subst (λ h. list_all (suits schema (Array h [])) (row_edits schema rows (Array first old) (Array other new)) ≡ true) (home_from_same other home k)
+    subst (λ h. list_all (suits schema (Array h [])) (row_edits schema rows (Array first old) (Array other new)) ≡ true) (home_is other home k)
     (array_suits schema rows other old new (is_filtered schema other))
 row_suits schema rows (Struct class fields) (Array other new) (Array home values) k = refl
 row_suits schema rows (Map first items) (Array other new) (Array home values) k = refl

@@ -1,14 +1,12 @@
 -- What an edited row holds it held before, or the operations name it.
-use Rattle.std.proofs.Common.{◌≡◌, ℕ, zero, suc, Bool, true, false, not, cond, ◌||◌, ◌&&◌, ◌==◌, List, [], ◌∷◌, ◌++◌, map, filter, set, Option, Some, None, refl, sym, ap, ◌∙◌, arith}
-use Rattle.std.specs.List.{list_all, list_any, flat_map}
+use Rattle.std.proofs.Common.{◌≡◌, ℕ, Bool, true, false, not, cond, ◌||◌, ◌==◌, List, [], ◌∷◌, map, filter, Option, Some, None, refl, sym, ap, ◌∙◌, arith}
+use Rattle.std.specs.List.{list_all, flat_map}
 use Rattle.std.specs.Option.{option_map_or}
-use Rattle.std.specs.Prelude.{length, nat_lt}
 use Rattle.std.proofs.lemmas.Bool.{and_parts, and_from}
 use Rattle.std.proofs.lemmas.Bool.Decides.{nat_tests}
 use Rattle.std.proofs.lemmas.List.Folds.{list_any-append}
 use Rattle.lists.specs.Rising.{put}
 use Rattle.schema_model.specs.declared.value.Value.{Value}
-use Rattle.schema_model.specs.declared.value.Value.TheVariants.{Link, Whole, Str, Truth}
 use Rattle.state_model.specs.declared.row.Row.{Row}
 use Rattle.state_model.specs.declared.row.FieldValue.{FieldValue}
 use Rattle.state_model.specs.declared.row.MapItem.{MapItem}
@@ -18,9 +16,10 @@ use Rattle.state_model.specs.Rows.{values_in, held_in}
 use Rattle.state_model.specs.Reached.{is_among}
 use Rattle.wire_model.specs.declared.op.OpKey.TheVariants.{Field, Item, Named}
 use Rattle.wire_model.specs.Edits.{Edit, Add, Replace, DeleteAdd, Delete, Clear, AddByRef, DeleteByRef, Carried, Plain, Linked, AWhole, AText, ATruth, carried_value}
-use Rattle.wire_model.specs.Effect.{Body, Fields, Items, Slots, Elements, closed, closed_slots, effect, edited_row, put_value, without_key, push_link, has_link, put_slot, add_slot, is_present_at, carried_by}
+use Rattle.wire_model.specs.Effect.{Body, Fields, Items, Slots, Elements, closed, effect, edited_row, put_value, without_key, carried_by}
 use Rattle.wire_model.specs.Patch.{named_in, linked_number}
-use Rattle.wire_laws.proofs.EditSteps.{edited_keeps, all-append, closed_slots-push, all-drop_link}
+use Rattle.wire_laws.proofs.EditSteps.{edited_keeps, all-drop_link}
+use Rattle.wire_laws.proofs.EditedPlaces.{all-set, all-put_slot, all-add_slot, all-push_link}
 
 -- ---- values that pass
 
@@ -48,48 +47,6 @@ module _ (t : Value → Bool) where
       by true here rest = and_from _ _ h rest
       by false here rest = and_from _ _ here rest
 
-  -- where a new slot and the others pass, all pass with it in its place
-  slots-set : (slots : List (Option Value)) (at : ℕ) (s : Option Value) → list_all t (closed_slots (s ∷ [])) ≡ true → list_all t (closed_slots slots) ≡ true → list_all t (closed_slots (set slots at s)) ≡ true
-  slots-set [] at s h a = refl
-  slots-set (None ∷ ss) zero None h a = a
-  slots-set (Some u ∷ ss) zero None h a = (and_parts (t u) (list_all t (closed_slots ss)) a).1
-  slots-set (None ∷ ss) zero (Some v) h a = grind arith
-  slots-set (Some u ∷ ss) zero (Some v) h a = grind arith
-  slots-set (None ∷ ss) (suc at) s h a = slots-set ss at s h a
-  slots-set (Some u ∷ ss) (suc at) s h a = grind (arith, slots-set ss at s h)
-
-  -- the same for a value that goes last
-  slots-push : (v : Value) (slots : List (Option Value)) → t v ≡ true → list_all t (closed_slots slots) ≡ true → list_all t (closed_slots (slots ++ Some v ∷ [])) ≡ true
-  slots-push v slots h a = rw (closed_slots-push slots v) (all-append t (closed_slots slots) (v ∷ []) a (and_from _ _ h refl))
-
-  -- the same for a value put in a slot
-  slots-put : (at : ℕ) (v : Value) (slots : List (Option Value)) → t v ≡ true → list_all t (closed_slots slots) ≡ true → list_all t (closed_slots (put_slot at v slots)) ≡ true
-  slots-put at v slots h a = by (nat_lt at (length slots)) (at == length slots)
-    where
-      by : (b c : Bool) → list_all t (closed_slots (cond b (set slots at (Some v)) (cond c (slots ++ Some v ∷ []) slots))) ≡ true
-      by true c = slots-set slots at (Some v) (and_from _ _ h refl) a
-      by false true = slots-push v slots h a
-      by false false = a
-
-  -- the same for a value added at a slot
-  slots-add : (at : ℕ) (v : Value) (slots : List (Option Value)) → t v ≡ true → list_all t (closed_slots slots) ≡ true → list_all t (closed_slots (add_slot at v slots)) ≡ true
-  slots-add at v slots h a = by ((at == 0) && is_present_at slots 0)
-    where
-      by : (b : Bool) → list_all t (closed_slots (cond b (Some v ∷ slots) (put_slot at v slots))) ≡ true
-      by true = and_from _ _ h a
-      by false = slots-put at v slots h a
-
-  -- the same for a link pushed
-  slots-push_link : (v : Value) (slots : List (Option Value)) → t v ≡ true → list_all t (closed_slots slots) ≡ true → list_all t (closed_slots (push_link v slots)) ≡ true
-  slots-push_link (Whole z) slots h a = a
-  slots-push_link (Str s) slots h a = a
-  slots-push_link (Truth b) slots h a = a
-  slots-push_link (Link n) slots h a = by (list_any (has_link n) slots)
-    where
-      by : (b : Bool) → list_all t (closed_slots (cond b slots (slots ++ Some (Link n) ∷ []))) ≡ true
-      by true = a
-      by false = slots-push (Link n) slots h a
-
   -- what an operation carries passes
   abbrev carries : Edit → Bool
   carries e = option_map_or (λ c. t (carried_value c)) (carried_by e) true
@@ -105,11 +62,11 @@ module _ (t : Value → Bool) where
   values_effect (Replace (Item n) v) (Items home items) h a = values-put_value n (carried_value v) items h a
   values_effect (Delete (Item n)) (Items home items) h a = values-filter (λ (i : MapItem). i.value) _ items a
   values_effect Clear (Items home items) h a = refl
-  values_effect (Add (Item at) v) (Slots home slots) h a = slots-add at (carried_value v) slots h a
-  values_effect (Replace (Item at) v) (Slots home slots) h a = slots-put at (carried_value v) slots h a
-  values_effect (DeleteAdd (Item at) v) (Slots home slots) h a = slots-put at (carried_value v) slots h a
-  values_effect (Delete (Item at)) (Slots home slots) h a = slots-set slots at None refl a
-  values_effect (AddByRef v) (Slots home slots) h a = slots-push_link (carried_value v) slots h a
+  values_effect (Add (Item at) v) (Slots home slots) h a = all-add_slot t at (carried_value v) slots h a
+  values_effect (Replace (Item at) v) (Slots home slots) h a = all-put_slot t at (carried_value v) slots h a
+  values_effect (DeleteAdd (Item at) v) (Slots home slots) h a = all-put_slot t at (carried_value v) slots h a
+  values_effect (Delete (Item at)) (Slots home slots) h a = all-set t slots at None refl a
+  values_effect (AddByRef v) (Slots home slots) h a = all-push_link t (carried_value v) slots h a
   values_effect (DeleteByRef n) (Slots home slots) h a = all-drop_link t n slots a
   values_effect Clear (Slots home slots) h a = refl
   values_effect (Add (Item n) v) (Elements home items) h a = values-put (λ (i : SetItem). i.value) (λ i. i.number) (record { number = n; value = carried_value v }) items h a

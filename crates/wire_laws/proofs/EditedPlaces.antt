@@ -1,7 +1,6 @@
 -- Each place of an edited row is as it was or as in the row that the operations lead to.
 use Rattle.std.proofs.Common.{◌≡◌, ℕ, zero, suc, Bool, true, false, ◌&&◌, ◌==◌, List, [], ◌∷◌, ◌++◌, map, set, Option, Some, None, cond, refl, sym, subst, arith}
 use Rattle.std.specs.List.{list_all, list_any, range_with_len}
-use Rattle.std.specs.Option.{option_map}
 use Rattle.std.specs.Prelude.{slice_get, length, nat_lt, max}
 use Rattle.std.proofs.lemmas.Bool.{and_parts, and_from}
 use Rattle.std.proofs.lemmas.Bool.Decides.{nat_tests}
@@ -24,6 +23,7 @@ use Rattle.wire_model.specs.declared.op.OpKey.TheVariants.{Field, Item, Named}
 use Rattle.wire_model.specs.Edits.{Edit, Add, Replace, DeleteAdd, Delete, Clear, AddByRef, DeleteByRef, carried_value}
 use Rattle.wire_model.specs.Effect.{Body, Fields, Items, Slots, Elements, closed, closed_slots, effect, edited_row, put_named, put_value, without_key, push_link, has_link, put_slot, add_slot, is_present_at}
 use Rattle.wire_model.specs.Patch.{carried, field_value, map_item, item_value, item_key, set_value, row_edits, whole_edits, whole_start, ref_edits, slot_edits, either_number}
+use Rattle.state_laws.proofs.Numbers.{mapped_some}
 use Rattle.wire_laws.proofs.EditSteps.{PutsPass, edited_keeps, all-filter, all-append, closed_slots-push, all-drop_link, places_pass, ref_edits_pass, start_passes}
 use Rattle.wire_laws.proofs.Values.{carried_is}
 
@@ -52,21 +52,16 @@ module _ {E : Type 0} (key : E → ℕ) (t : E → Bool) where
       by false later f = later f
 
 -- a value that is looked up by its position passes
-all-slice_get : (t : Value → Bool) (vs : List Value) (at : ℕ) (v : Value) → list_all t vs ≡ true → slice_get vs at ≡ Some v → t v ≡ true
+pub all-slice_get : (t : Value → Bool) (vs : List Value) (at : ℕ) (v : Value) → list_all t vs ≡ true → slice_get vs at ≡ Some v → t v ≡ true
 all-slice_get t [] at v a h = cc
 all-slice_get t (u ∷ us) zero v a h = let same : u ≡ v = cc in subst (λ y. t y ≡ true) same (and_parts (t u) (list_all t us) a).0
 all-slice_get t (u ∷ us) (suc at) v a h = all-slice_get t us at v (and_parts (t u) (list_all t us) a).1 h
-
--- what is made of an absent or a found item is made of a found one
-some_of : {X Y : Type 0} (f : X → Y) (o : Option X) (y : Y) → option_map f o ≡ Some y → (x : X) × (o ≡ Some x) × (f x ≡ y)
-some_of f None y h = cc
-some_of f (Some x) y h = (x, refl, cc)
 
 -- ---- slots
 
 module _ (t : Value → Bool) where
   -- where a new slot and the others pass, all pass with it in its place
-  all-set : (slots : List (Option Value)) (at : ℕ) (s : Option Value) → list_all t (closed_slots (s ∷ [])) ≡ true → list_all t (closed_slots slots) ≡ true → list_all t (closed_slots (set slots at s)) ≡ true
+  pub all-set : (slots : List (Option Value)) (at : ℕ) (s : Option Value) → list_all t (closed_slots (s ∷ [])) ≡ true → list_all t (closed_slots slots) ≡ true → list_all t (closed_slots (set slots at s)) ≡ true
   all-set [] at s h a = refl
   all-set (None ∷ ss) zero None h a = a
   all-set (Some u ∷ ss) zero None h a = (and_parts (t u) (list_all t (closed_slots ss)) a).1
@@ -76,7 +71,7 @@ module _ (t : Value → Bool) where
   all-set (Some u ∷ ss) (suc at) s h a = grind (arith, all-set ss at s h)
 
   -- the same for a value put in a slot
-  all-put_slot : (at : ℕ) (v : Value) (slots : List (Option Value)) → t v ≡ true → list_all t (closed_slots slots) ≡ true → list_all t (closed_slots (put_slot at v slots)) ≡ true
+  pub all-put_slot : (at : ℕ) (v : Value) (slots : List (Option Value)) → t v ≡ true → list_all t (closed_slots slots) ≡ true → list_all t (closed_slots (put_slot at v slots)) ≡ true
   all-put_slot at v slots h a = by (nat_lt at (length slots)) (at == length slots)
     where
       by : (b c : Bool) → list_all t (closed_slots (cond b (set slots at (Some v)) (cond c (slots ++ Some v ∷ []) slots))) ≡ true
@@ -85,7 +80,7 @@ module _ (t : Value → Bool) where
       by false false = a
 
   -- the same for a value added at a slot
-  all-add_slot : (at : ℕ) (v : Value) (slots : List (Option Value)) → t v ≡ true → list_all t (closed_slots slots) ≡ true → list_all t (closed_slots (add_slot at v slots)) ≡ true
+  pub all-add_slot : (at : ℕ) (v : Value) (slots : List (Option Value)) → t v ≡ true → list_all t (closed_slots slots) ≡ true → list_all t (closed_slots (add_slot at v slots)) ≡ true
   all-add_slot at v slots h a = by ((at == 0) && is_present_at slots 0)
     where
       by : (b : Bool) → list_all t (closed_slots (cond b (Some v ∷ slots) (put_slot at v slots))) ≡ true
@@ -93,7 +88,7 @@ module _ (t : Value → Bool) where
       by false = all-put_slot at v slots h a
 
   -- the same for a link pushed
-  all-push_link : (v : Value) (slots : List (Option Value)) → t v ≡ true → list_all t (closed_slots slots) ≡ true → list_all t (closed_slots (push_link v slots)) ≡ true
+  pub all-push_link : (v : Value) (slots : List (Option Value)) → t v ≡ true → list_all t (closed_slots slots) ≡ true → list_all t (closed_slots (push_link v slots)) ≡ true
   all-push_link (Whole z) slots h a = a
   all-push_link (Str s) slots h a = a
   all-push_link (Truth b) slots h a = a
@@ -196,7 +191,7 @@ module _ (p : ℕ → Value → Bool) (q : Value → Bool) (k : ℕ → List ℕ
   -- the value of a field passes
   field_found : (i : ℕ) (fields : List FieldValue) (v : Value) → list_all field_passes fields ≡ true → field_value fields i ≡ Some v → p i v ≡ true
   field_found i fields v a h =
-      let x = some_of (λ (f : FieldValue). f.value) (find (λ (f : FieldValue). f.field) i fields) v h in
+      let x = mapped_some (λ (f : FieldValue). f.value) (find (λ (f : FieldValue). f.field) i fields) v h in
       let t : p x.0.field x.0.value ≡ true = all-find (λ (f : FieldValue). f.field) field_passes i fields x.0 a x.1 in
       let e : x.0.field ≡ i = find_key (λ (f : FieldValue). f.field) i fields x.0 x.1 in
       subst (λ j. p j v ≡ true) e (subst (λ u. p x.0.field u ≡ true) x.2 t)
@@ -204,13 +199,13 @@ module _ (p : ℕ → Value → Bool) (q : Value → Bool) (k : ℕ → List ℕ
   -- the value of an item of a set passes
   element_found : (n : ℕ) (items : List SetItem) (v : Value) → list_all element_passes items ≡ true → set_value items n ≡ Some v → q v ≡ true
   element_found n items v a h =
-      let x = some_of (λ (i : SetItem). i.value) (find (λ (i : SetItem). i.number) n items) v h in
+      let x = mapped_some (λ (i : SetItem). i.value) (find (λ (i : SetItem). i.number) n items) v h in
       subst (λ u. q u ≡ true) x.2 (all-find (λ (i : SetItem). i.number) element_passes n items x.0 a x.1)
 
   -- the value of an item of a map passes, and its key
   item_found : (n : ℕ) (items : List MapItem) (v : Value) → list_all item_passes items ≡ true → item_value (map_item items n) ≡ Some v → (q v ≡ true) × (k n (item_key (map_item items n)) ≡ true)
   item_found n items v a h =
-      let x = some_of (λ (i : MapItem). i.value) (map_item items n) v h in
+      let x = mapped_some (λ (i : MapItem). i.value) (map_item items n) v h in
       let two = and_parts (q x.0.value) (k x.0.number x.0.key) (all-find (λ (i : MapItem). i.number) item_passes n items x.0 a x.1) in
       let e : x.0.number ≡ n = find_key (λ (i : MapItem). i.number) n items x.0 x.1 in
       (subst (λ u. q u ≡ true) x.2 two.0, subst (λ o. k n (item_key o) ≡ true) (sym x.1) (subst (λ j. k j x.0.key ≡ true) e two.1))

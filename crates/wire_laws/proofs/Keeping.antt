@@ -2,7 +2,7 @@
 use Rattle.std.proofs.Common.{◌≡◌, ℕ, Bool, true, false, cond, ◌==◌, zero, suc, List, [], ◌∷◌, ◌++◌, length, inl, inr, Option, Some, None, refl, sym, ap, subst, ◌∙◌}
 use Rattle.std.specs.Prelude.{◌⊎◌}
 use Rattle.std.specs.Option.{option_map_or}
-use Rattle.std.proofs.lemmas.Bool.{eqb-true}
+use Rattle.std.proofs.lemmas.Bool.{eqb-true, or_right}
 use Rattle.lists.specs.Rising.{RisesFrom}
 use Rattle.schema_model.specs.Classes.{Schema}
 use Rattle.state_model.specs.declared.row.Row.{Row}
@@ -18,16 +18,17 @@ use Rattle.wire_model.specs.Patch.{named_in, named_by_blocks, kind_in, row_edits
 use Rattle.wire_laws.proofs.Forms.{IsFormed}
 use Rattle.wire_laws.proofs.LinkedRows.{CarriesKinds, named_rises, named_rows, row_carries, whole_carries}
 use Rattle.wire_laws.proofs.OneBlock.{block_rises, block_rows}
-use Rattle.wire_laws.proofs.NamedNumbers.{emptied_holds, named_held, whole_held}
+use Rattle.wire_laws.proofs.NamedNumbers.{named_held, whole_held}
 use Rattle.wire_laws.proofs.EditedForm.{edited_kind, edited_formed, whole_formed}
 use Rattle.wire_laws.proofs.CommonPhase.{AreAmong, blocks_for}
 use Rattle.wire_laws.proofs.Leads.{among_self}
 use Rattle.wire_laws.proofs.Origins.{IsFrom, Kept}
 use Rattle.wire_laws.proofs.OriginLaws.{from_client, from_emptied, from_edited, from_whole}
 use Rattle.wire_laws.proofs.EditedNames.{edited_names}
-use Rattle.wire_laws.proofs.KindLaws.{kind_emptied}
+use Rattle.wire_laws.proofs.KindLaws.{kind_emptied, kind_of}
 use Rattle.std.proofs.lemmas.Option.{same_Some}
-use Rattle.wire_laws.proofs.Bools.{or_right, in_either}
+use Rattle.state_laws.proofs.Fitting.{emptied_holds}
+use Rattle.wire_laws.proofs.Bools.{in_either}
 use Rattle.wire_laws.proofs.RowLaw.{emptied_formed}
 
 -- the operations of a block lead to the goal's row of its holder
@@ -77,10 +78,6 @@ emptied_twice (Map home items) = refl
 emptied_twice (Array home values) = refl
 emptied_twice (Set home items) = refl
 
--- the kind of a number that the goal has
-kind_at : (goal : List RowEntry) (n : ℕ) (b : Row) → row_at goal n ≡ Some b → kind_in goal n ≡ emptied b
-kind_at goal n b is = ap (λ o. option_map_or emptied o (Struct 0 [])) is
-
 -- rows in which named rows are there, without places, are kept
 named_kept : (schema : Schema) (client goal now : List RowEntry) (es : List Edit) → Kept schema client goal now → CarriesKinds goal es
     → ((m : ℕ) → is_among m (named_in es) ≡ true → is_live goal m ≡ true) → Kept schema client goal (with_named es now)
@@ -93,7 +90,7 @@ named_kept schema client goal now es k carries names = record {
   ];
   goal_kind = λ n r b is goal_is. elim (stands n r is) [
     | inl h ↦ k.goal_kind n r b h goal_is
-    | inr h ↦ ap emptied (h.2 ∙ kind_at goal n b goal_is) ∙ emptied_twice b
+    | inr h ↦ ap emptied (h.2 ∙ kind_of goal n b goal_is) ∙ emptied_twice b
   ];
   there = λ n live. let row = at_live (with_named es now) n live in elim (stands n row.0 row.1) [
     | inl h ↦ k.there n (live_at now n row.0 h)
@@ -114,7 +111,7 @@ named_kept schema client goal now es k carries names = record {
     stands n r is = named_stands goal now es n r k.rises carries is
 
     empty : (n : ℕ) (r : Row) → (is_live now n ≡ false) × (is_among n (named_in es) ≡ true) × (r ≡ kind_in goal n) → (b : Row) × (r ≡ emptied b)
-    empty n r h = let b = at_live goal n (names n h.1) in (b.0, h.2 ∙ kind_at goal n b.0 b.1)
+    empty n r h = let b = at_live goal n (names n h.1) in (b.0, h.2 ∙ kind_of goal n b.0 b.1)
 
 -- ---- one row in place of another
 
@@ -170,7 +167,8 @@ pub record IsGoal (schema : Schema) (goal : List RowEntry) : Type 0 where
   pub formed : (n : ℕ) (b : Row) → row_at goal n ≡ Some b → IsFormed schema b
   pub links : (n m : ℕ) (b : Row) → row_at goal n ≡ Some b → is_among m (held_in b) ≡ true → is_live goal m ≡ true
 
-carries_of : (schema : Schema) (goal : List RowEntry) (b : EditBlock) → LeadsTo schema goal b → CarriesKinds goal b.edits
+-- the operations of a block carry the kinds of their links
+pub carries_of : (schema : Schema) (goal : List RowEntry) (b : EditBlock) → LeadsTo schema goal b → CarriesKinds goal b.edits
 carries_of schema goal b l =
     elim l.leads [
       | inl h ↦ subst (CarriesKinds goal) (sym h.2) (row_carries schema goal h.0 l.row)

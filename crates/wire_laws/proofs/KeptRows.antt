@@ -26,9 +26,10 @@ use Rattle.state_laws.proofs.Tests.{list_any-map, list_any-made, list_all_wider,
 use Rattle.state_laws.proofs.Fitting.{OneKind, same_class, same_declared, one_home, fits_elsewhere, fits_live}
 use Rattle.state_laws.proofs.FittingRows.{rise_where}
 use Rattle.state_laws.proofs.RowsOf.{rows_fit, rows_root}
-use Rattle.wire_laws.proofs.Values.{same_is}
+use Rattle.state_laws.proofs.SameValues.{same_is}
 use Rattle.wire_laws.proofs.Forms.{IsFormed}
 use Rattle.wire_laws.proofs.Origins.{has_field, has_value, has_key, some_row, IsFrom, Kept}
+use Rattle.wire_laws.proofs.Bools.{in_either}
 
 -- ---- lists and tests
 
@@ -36,11 +37,6 @@ use Rattle.wire_laws.proofs.Origins.{has_field, has_value, has_key, some_row, Is
 pub all_rows : (p : RowEntry → Bool) (rows : List RowEntry) → RisesFrom number_of 0 rows
     → ((n : ℕ) (r : Row) → row_at rows n ≡ Some r → p (entry n r) ≡ true) → list_all p rows ≡ true
 all_rows p rows rises each = found-all number_of p 0 rows rises (λ e found. each e.who e.row (found_row rows e.who e found))
-
--- what follows from either of two tests follows from both at once
-by_either : (a b c : Bool) → (a ≡ true → c ≡ true) → (b ≡ true → c ≡ true) → (a || b) ≡ true → c ≡ true
-by_either true b c f g h = f refl
-by_either false b c f g h = g h
 
 -- what holds where a test holds, or the test does not hold
 unless : (b d : Bool) → (b ≡ true → d ≡ true) → (not b || d) ≡ true
@@ -153,14 +149,14 @@ module _ (schema : Schema) (client goal now : List RowEntry) (ours : are_rows_of
   field_kept : (n class i : ℕ) (fields : List FieldValue) (v : Value) → row_at now n ≡ Some (Struct class fields) → ((m : ℕ) → is_among m (held_by v) ≡ true → is_live now m ≡ true)
       → (some_row (has_field i v) (row_at client n) || some_row (has_field i v) (row_at goal n)) ≡ true → fits_place schema now v (field_wants schema class i) ≡ true
   field_kept n class i fields v is there h =
-      by_either (some_row (has_field i v) (row_at client n)) (some_row (has_field i v) (row_at goal n)) (fits_place schema now v (field_wants schema class i))
+      in_either (some_row (has_field i v) (row_at client n)) (some_row (has_field i v) (row_at goal n)) (fits_place schema now v (field_wants schema class i))
       (field_now schema client now ours k.client_kind n class i fields v is there) (field_now schema goal now theirs k.goal_kind n class i fields v is there) h
 
   -- an item fits, which the client's row has or the other
   item_kept : (n : ℕ) (home : Home) (r : Row) (v : Value) → row_home r ≡ Some home → row_at now n ≡ Some r → ((m : ℕ) → is_among m (held_by v) ≡ true → is_live now m ≡ true)
       → (some_row (has_value v) (row_at client n) || some_row (has_value v) (row_at goal n)) ≡ true → fits_place schema now v (item_wants schema home) ≡ true
   item_kept n home r v at is there h =
-      by_either (some_row (has_value v) (row_at client n)) (some_row (has_value v) (row_at goal n)) (fits_place schema now v (item_wants schema home))
+      in_either (some_row (has_value v) (row_at client n)) (some_row (has_value v) (row_at goal n)) (fits_place schema now v (item_wants schema home))
       (item_now schema client now ours k.client_kind n home r v at is there) (item_now schema goal now theirs k.goal_kind n home r v at is there) h
 
   -- the places of a row fit
@@ -208,7 +204,7 @@ module _ (schema : Schema) (client goal now : List RowEntry) (ours : are_rows_of
   row_kept : (n : ℕ) (r : Row) → row_at now n ≡ Some r → (has_kind schema r && places_fit schema now r) ≡ true
   row_kept n r is =
       and_from (has_kind schema r) (places_fit schema now r)
-      (by_either (is_live client n) (is_live goal n) (has_kind schema r)
+      (in_either (is_live client n) (is_live goal n) (has_kind schema r)
       (kind_now schema client now ours k.client_kind n r is) (kind_now schema goal now theirs k.goal_kind n r is) (k.there n (live_at now n r is)))
       (places_kept n r is (k.formed n r is) (k.origin n r is))
 

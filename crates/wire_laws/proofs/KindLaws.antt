@@ -1,12 +1,15 @@
 -- Being of one kind is being one row without places: so it holds of a row and itself, both ways round, and from one row to the next.
-use Rattle.std.proofs.Common.{◌≡◌, true, ◌==◌, [], refl, sym, ap, ◌∙◌, arith}
+use Rattle.std.proofs.Common.{◌≡◌, ℕ, true, ◌==◌, List, [], Some, refl, sym, ap, ◌∙◌, arith}
+use Rattle.std.specs.Option.{option_map_or}
 use Rattle.std.proofs.lemmas.Bool.{and_parts, eqb-true}
 use Rattle.std.proofs.lemmas.Bool.Decides.{nat_tests}
 use Rattle.schema_model.specs.declared.place.Home.{Home}
 use Rattle.state_model.specs.declared.row.Row.{Row}
 use Rattle.state_model.specs.declared.row.Row.TheVariants.{Struct, Map, Array, Set}
-use Rattle.state_model.specs.Rows.{emptied}
+use Rattle.state_model.specs.declared.row.RowEntry.{RowEntry}
+use Rattle.state_model.specs.Rows.{row_at, emptied}
 use Rattle.state_model.specs.Places.{same_kind, same_home}
+use Rattle.wire_model.specs.Patch.{kind_in}
 
 -- homes that the test takes for one are one
 pub home_is : (a b : Home) → same_home a b ≡ true → a ≡ b
@@ -50,3 +53,7 @@ same_kind_sym a b h = kind_emptied b a (sym (emptied_of_kind a b h))
 -- rows of the kind of a row between them are of one kind
 pub same_kind_trans : (a b c : Row) → same_kind a b ≡ true → same_kind b c ≡ true → same_kind a c ≡ true
 same_kind_trans a b c h k = kind_emptied a c (emptied_of_kind a b h ∙ emptied_of_kind b c k)
+
+-- the kind of a number that has a row
+pub kind_of : (rows : List RowEntry) (n : ℕ) (r : Row) → row_at rows n ≡ Some r → kind_in rows n ≡ emptied r
+kind_of rows n r is = ap (λ o. option_map_or emptied o (Struct 0 [])) is

@@ -1,8 +1,9 @@
 -- A patch leads from old rows to new rows.
-use Rattle.std.proofs.Common.{◌≡◌, ◌≤◌, ◌<◌, ℕ, suc, Bool, true, false, not, cond, ◌||◌, ◌&&◌, List, [], ◌∷◌, ◌++◌, length, append-nil, Option, Some, None, refl, sym, ap, subst, ◌∙◌, ◌==◌, arith}
+use Rattle.std.proofs.Common.{◌≡◌, ◌≤◌, ◌<◌, ℕ, suc, Bool, true, false, not, cond, ◌||◌, ◌&&◌, List, [], ◌∷◌, ◌++◌, length, Option, Some, None, refl, sym, ap, subst, ◌∙◌, ◌==◌, arith}
 use Rattle.std.specs.Prelude.{is_some}
 use Rattle.std.proofs.lemmas.Bool.Decides.{nat_tests}
 use Rattle.std.proofs.lemmas.Grind.{flat_map-append}
+use Rattle.std.proofs.lemmas.Bool.{or_left, or_right, false_from_ne_true}
 use Rattle.lists.specs.Rising.{RisesFrom, find}
 use Rattle.lists.proofs.RisingLaws.{RisesFrom-filter}
 use Rattle.schema_model.specs.Classes.{Schema}
@@ -10,21 +11,21 @@ use Rattle.state_model.specs.declared.row.Row.{Row}
 use Rattle.state_model.specs.declared.row.RowEntry.{RowEntry}
 use Rattle.state_model.specs.Rows.{number_of, numbers_of, row_at, is_live, held_in}
 use Rattle.state_model.specs.Reached.{is_among}
-use Rattle.state_laws.proofs.Numbers.{entry, live_row, row_chosen, live_chosen, at_live, row_found}
+use Rattle.state_laws.proofs.Numbers.{entry, live_row, row_chosen, live_chosen, at_live, row_found, among_both}
 use Rattle.state_laws.proofs.Passing.{length-filter_most}
 use Rattle.state_laws.proofs.Joins.{Joined}
 use Rattle.state_laws.proofs.FreedLaw.{freed_joined}
-use Rattle.wire_model.specs.Edits.{Edit, EditBlock}
+use Rattle.wire_model.specs.Edits.{EditBlock}
 use Rattle.wire_model.specs.Effect.{apply_edits}
-use Rattle.wire_model.specs.Patch.{named_in, named_by_blocks, row_edits, block_of, common_block, common_blocks, new_blocks, patch_edits, kind_in}
+use Rattle.wire_model.specs.Patch.{named_in, named_by_blocks, row_edits, common_block, common_blocks, new_blocks, patch_edits, kind_in}
 use Rattle.wire_laws.specs.PatchLaw.{Patchable, PatchLeads, outside}
 use Rattle.state_laws.proofs.RowsOf.{rows_rise, rows_links, rows_root}
 use Rattle.wire_laws.proofs.FormedRows.{rows_formed}
 use Rattle.wire_laws.proofs.NamedNumbers.{named_held, held_named}
-use Rattle.wire_laws.proofs.Looks.{Looks, looked, among_both}
-use Rattle.wire_laws.proofs.CommonPhase.{Ready, AreAmong, blocks_for, common_looks, fold-append_blocks, named_both}
+use Rattle.wire_laws.proofs.Looks.{Looks, looked}
+use Rattle.wire_laws.proofs.CommonPhase.{Ready, AreAmong, blocks_for, common_looks, fold-append_blocks, named_block}
 use Rattle.wire_laws.proofs.NewPhase.{Tracks, Arrives, new_looks}
-use Rattle.wire_laws.proofs.Bools.{or_left, or_right, in_either, not_true}
+use Rattle.wire_laws.proofs.Bools.{in_either}
 
 -- ---- rows among themselves
 
@@ -45,16 +46,13 @@ named_first : (schema : Schema) (new : List RowEntry) (e : RowEntry) (old_row : 
     → is_among m (named_by_blocks (common_block schema new e old_row ++ bs)) ≡ (is_among m (named_by_blocks (common_block schema new e old_row)) || is_among m (named_by_blocks bs))
 named_first schema new e old_row bs m =
     ap (is_among m) (flat_map-append (λ (b : EditBlock). named_in b.edits) (common_block schema new e old_row) bs)
-    ∙ among_both m (named_by_blocks (common_block schema new e old_row)) (named_by_blocks bs)
-
-pub named_one : (n : ℕ) (es : List Edit) → named_by_blocks (block_of n es) ≡ named_in es
-named_one n es = ap (λ bs. named_by_blocks bs) (sym (append-nil (block_of n es))) ∙ (named_both n es [] ∙ append-nil (named_in es))
+    ∙ among_both (named_by_blocks (common_block schema new e old_row)) (named_by_blocks bs) m
 
 block_names : (schema : Schema) (old new : List RowEntry) (e : RowEntry) (old_row : Option Row) (m : ℕ) → Ready schema old new → row_at new e.who ≡ Some e.row
     → is_among m (named_by_blocks (common_block schema new e old_row)) ≡ true → is_live new m ≡ true
 block_names schema old new e None m r is h = cc
 block_names schema old new e (Some a) m r is h =
-    r.new_links e.who m e.row is (named_held schema new a e.row m (sym (ap (is_among m) (named_one e.who (row_edits schema new a e.row))) ∙ h))
+    r.new_links e.who m e.row is (named_held schema new a e.row m (sym (ap (is_among m) (named_block e.who (row_edits schema new a e.row))) ∙ h))
 
 -- what they name is there
 common_names : (schema : Schema) (old new es : List RowEntry) (m : ℕ) → Ready schema old new → AreAmong new es
@@ -81,7 +79,7 @@ names_one schema old new (x ∷ es) e a n m f is h =
 
     names_here : (x : RowEntry) → x ≡ e → is_among m (named_by_blocks (common_block schema new x (row_at old x.who))) ≡ true
     names_here x same =
-        let here : is_among m (named_by_blocks (common_block schema new e (Some a))) ≡ true = ap (is_among m) (named_one e.who (row_edits schema new a e.row)) ∙ h in
+        let here : is_among m (named_by_blocks (common_block schema new e (Some a))) ≡ true = ap (is_among m) (named_block e.who (row_edits schema new a e.row)) ∙ h in
         let told : is_among m (named_by_blocks (common_block schema new e (row_at old e.who))) ≡ true = ap (λ o. is_among m (named_by_blocks (common_block schema new e o))) is ∙ here in
         subst (λ y. is_among m (named_by_blocks (common_block schema new y (row_at old y.who))) ≡ true) (sym same) told
 
@@ -194,8 +192,8 @@ joined schema old new now p r a = record {
         let go : (b : Bool) → is_live new n ≡ b → looked old new a.worked a.named n ≡ cond b (row_at new n) (row_at (outside new old) n) = elim [
           | true ↦ λ live. ap (λ w. cond w (row_at new n) (cond (is_live old n) (row_at old n) (cond (is_among n a.named) (Some (kind_in new n)) None))) (a.all n live)
           | false ↦ λ gone.
-              let idle : a.worked n ≡ false = not_true (a.worked n) (λ w. let e = a.looks.there n w in cc) in
-              let unnamed : is_among n a.named ≡ false = not_true (is_among n a.named) (λ w. let e = a.named_new n w in cc) in
+              let idle : a.worked n ≡ false = false_from_ne_true (a.worked n) (λ w. let e = a.looks.there n w in cc) in
+              let unnamed : is_among n a.named ≡ false = false_from_ne_true (is_among n a.named) (λ w. let e = a.named_new n w in cc) in
               ap (λ w. cond w (row_at new n) (cond (is_live old n) (row_at old n) (cond (is_among n a.named) (Some (kind_in new n)) None))) idle
               ∙ (ap (λ x. cond (is_live old n) (row_at old n) (cond x (Some (kind_in new n)) None)) unnamed
               ∙ (sym (first_row (row_at old n) (is_live old n) (live_row old n))

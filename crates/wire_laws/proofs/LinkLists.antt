@@ -1,6 +1,6 @@
 -- Lists of values that differ: which values stand in them, and what a filter leaves.
 use Rattle.std.proofs.Common.{◌≡◌, Bool, true, false, not, ◌&&◌, List, [], ◌∷◌, ◌++◌, filter, refl, sym, ap, arith}
-use Rattle.std.specs.List.{list_any, list_all}
+use Rattle.std.specs.List.{list_any}
 use Rattle.std.proofs.lemmas.List.Folds.{list_any-append}
 use Rattle.std.proofs.lemmas.Bool.Decides.{nat_tests}
 use Rattle.std.proofs.lemmas.Map.Views.{any-filter_same}
@@ -8,7 +8,7 @@ use Rattle.schema_model.specs.declared.value.Value.{Value}
 use Rattle.state_model.specs.Values.{same_value}
 use Rattle.state_model.specs.Sound.{differ}
 use Rattle.wire_model.specs.Patch.{stands_in, kept_of, gone_of}
-use Rattle.wire_laws.proofs.Values.{same_is, same_self, same_value_sym}
+use Rattle.state_laws.proofs.SameValues.{same_is, same_self, same_value_sym}
 
 -- ---- filters
 
@@ -27,11 +27,6 @@ module _ {A : Type 0} where
   pub filter_all : (xs : List A) → filter (λ a. true) xs ≡ xs
   filter_all [] = refl
   filter_all (x ∷ xs) = ap (λ ys. x ∷ ys) (filter_all xs)
-
-  -- what holds of all holds of what a filter leaves
-  pub list_all-filter : (p q : A → Bool) (xs : List A) → list_all q xs ≡ true → list_all q (filter p xs) ≡ true
-  list_all-filter p q [] h = refl
-  list_all-filter p q (x ∷ xs) h = grind (arith, nat_tests, list_all-filter p q xs)
 
   -- what nothing passes, nothing that a filter leaves passes
   list_any-filter_none : (p q : A → Bool) (xs : List A) → list_any q xs ≡ false → list_any q (filter p xs) ≡ false
@@ -57,11 +52,6 @@ pub without_gone : (new old : List Value) → filter (λ v. not (stands_in (gone
 without_gone new old = filter_alike (λ v. not (stands_in (gone_of new old) v)) (stands_in new) old (λ v s. let e = stands_in-filter (λ w. not (stands_in new w)) old v in grind (arith, nat_tests))
 
 -- ---- values that differ
-
--- values that differ still differ after a filter
-pub differ-filter : (p : Value → Bool) (xs : List Value) → differ xs ≡ true → differ (filter p xs) ≡ true
-differ-filter p [] h = refl
-differ-filter p (x ∷ xs) h = grind (arith, nat_tests, differ-filter p xs, list_any-filter_none p (same_value x) xs)
 
 -- in a list of values that differ a later one doesn't stand among the ones before it
 pub differ_apart : (xs : List Value) (v : Value) (vs : List Value) → differ (xs ++ v ∷ vs) ≡ true → stands_in xs v ≡ false

@@ -24,7 +24,7 @@ use Rattle.wire_model.specs.Edits.{Edit, Clear, Carried, Plain, Linked}
 use Rattle.wire_model.specs.Effect.{carried_by, with_linked, with_named}
 use Rattle.wire_model.specs.Patch.{kind_in, carried, changed_place, place_edit, field_value, map_item, item_value, item_key, set_value, slot_edits, same_values, kept_of, gone_of, drop_edit, push_edit, ref_edits, row_edits, whole_start, whole_edits, linked_number, named_in}
 use Rattle.state_laws.proofs.Numbers.{live_row}
-use Rattle.wire_laws.proofs.Bools.{or-none}
+use Rattle.wire_laws.proofs.Bools.{or-none, or-swap}
 
 -- ---- the kinds of what is carried
 
@@ -209,13 +209,6 @@ linked_rows kinds (Plain k s) rows n h = none_named kinds rows n
 linked_rows kinds (Linked j empty) rows n h =
     let go : (b : Bool) → is_live rows j ≡ b → row_at (cond b rows (put_row j empty rows)) n ≡ named_row kinds rows (j ∷ []) n = elim [ true ↦ λ e. old_link kinds rows j n e | false ↦ λ e. new_link kinds rows j n empty h e ] in
     go (is_live rows j) refl
-
--- two truth values in either order
-or-swap : (a b : Bool) → (a || b) ≡ (b || (a || false))
-or-swap true true = refl
-or-swap true false = refl
-or-swap false true = refl
-or-swap false false = refl
 
 -- which numbers are live after one link
 linked_lives : (c : Carried) (rows : List RowEntry) (n : ℕ) → is_live (with_linked c rows) n ≡ (is_live rows n || is_among n (linked_number c))

@@ -1,14 +1,13 @@
 -- Rows on the way from old rows to new rows: some numbers have their new row, the others their old one; and new rows that were only named are empty.
-use Rattle.std.proofs.Common.{◌≡◌, ℕ, Bool, true, false, cond, ◌||◌, List, [], ◌∷◌, ◌++◌, Option, Some, None, refl, sym, ap, ◌∙◌, ◌==◌, arith}
+use Rattle.std.proofs.Common.{◌≡◌, ℕ, Bool, true, false, cond, ◌||◌, List, ◌++◌, Option, Some, None, refl, sym, ap, ◌∙◌, ◌==◌}
 use Rattle.std.specs.Prelude.{is_some}
-use Rattle.std.proofs.lemmas.Bool.Decides.{nat_tests}
 use Rattle.std.proofs.lemmas.Bool.{eqb-true}
 use Rattle.lists.specs.Rising.{RisesFrom}
 use Rattle.state_model.specs.declared.row.Row.{Row}
 use Rattle.state_model.specs.declared.row.RowEntry.{RowEntry}
 use Rattle.state_model.specs.Rows.{number_of, row_at, is_live}
 use Rattle.state_model.specs.Reached.{is_among}
-use Rattle.state_laws.proofs.Numbers.{live_row}
+use Rattle.state_laws.proofs.Numbers.{live_row, among_both}
 use Rattle.wire_model.specs.Edits.{Edit, EditBlock}
 use Rattle.wire_model.specs.Effect.{apply_block, edited_row, with_named}
 use Rattle.wire_model.specs.Patch.{named_in, kind_in}
@@ -34,10 +33,6 @@ one_more m worked n = (m == n) || worked n
 or_else : Option Row → Option Row → Option Row
 or_else x y = cond (is_some x) x y
 
-pub among_both : (n : ℕ) (ns ms : List ℕ) → is_among n (ns ++ ms) ≡ (is_among n ns || is_among n ms)
-among_both n [] ms = refl
-among_both n (k ∷ ns) ms = grind (arith, nat_tests, among_both n ns ms)
-
 pub some_of : (o : Option Row) → is_some o ≡ true → (r : Row) × (o ≡ Some r)
 some_of None h = cc
 some_of (Some r) h = (r, refl)
@@ -60,7 +55,7 @@ named_looks old new now worked named edits n l carries =
     ∙ (ap (λ o. cond (is_some o) o (cond (is_among n (named_in edits)) (Some (kind_in new n)) None)) (l.rows n)
     ∙ (beside (worked n) (is_live old n) (is_among n named) (is_among n (named_in edits)) (row_at new n) (row_at old n) (Some (kind_in new n))
     (λ w. sym (live_row new n) ∙ l.there n w) (sym (live_row old n)) refl
-    ∙ ap (λ b. cond (worked n) (row_at new n) (cond (is_live old n) (row_at old n) (cond b (Some (kind_in new n)) None))) (sym (among_both n named (named_in edits))))))
+    ∙ ap (λ b. cond (worked n) (row_at new n) (cond (is_live old n) (row_at old n) (cond b (Some (kind_in new n)) None))) (sym (among_both named (named_in edits) n)))))
 
 -- the holder's row is the new one, the others are as they were
 worked_more : (m n : ℕ) (w : Bool) (result : Row) (new_row rest : Option Row) → (m ≡ n → new_row ≡ Some result)

@@ -20,7 +20,8 @@ use Rattle.wire_model.specs.declared.op.OpKey.TheVariants.{Item, Named}
 use Rattle.wire_model.specs.Edits.{Edit, carried_value}
 use Rattle.wire_model.specs.Effect.{Items, effect, without_key, put_named, put_value}
 use Rattle.wire_model.specs.Patch.{carried, changed_place, place_edit, map_item, item_key, item_value, map_edits}
-use Rattle.wire_laws.proofs.Values.{same_is, carried_is}
+use Rattle.state_laws.proofs.SameValues.{same_is}
+use Rattle.wire_laws.proofs.Values.{carried_is}
 use Rattle.wire_laws.proofs.Runs.{Between, Stepped, Waits, whole_run}
 
 -- ---- rising lists whose items change and keep their keys

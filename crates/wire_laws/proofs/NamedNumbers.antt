@@ -21,13 +21,15 @@ use Rattle.state_model.specs.Reached.{is_among}
 use Rattle.wire_model.specs.declared.op.OpKey.TheVariants.{Field, Item, Named}
 use Rattle.wire_model.specs.Edits.{Clear}
 use Rattle.wire_model.specs.Patch.{field_value, map_item, item_value, item_key, set_value, either_number, field_edits, map_edits, set_edits, slot_edits, same_values, kept_of, gone_of, drop_edit, push_edit, ref_edits, row_edits, whole_edits, named_in}
+use Rattle.state_laws.proofs.Numbers.{among_with}
+use Rattle.state_laws.proofs.Fitting.{emptied_holds}
 use Rattle.wire_laws.proofs.Forms.{IsFormed}
-use Rattle.wire_laws.proofs.PlaceNames.{among-with_numbers, carried_numbers, places_name, places_named}
+use Rattle.wire_laws.proofs.PlaceNames.{carried_numbers, places_name, places_named}
 use Rattle.wire_laws.proofs.HeldPlaces.{values_hold, found_held, found_unheld, held_found, slot_held, slot_unheld, held_slot, among-range, filter_held, gone_held}
 
 -- a number of the new places is among those of both
 among_new : (old new : List ℕ) (k : ℕ) → is_among k new ≡ true → is_among k (either_number old new) ≡ true
-among_new old new k h = let parts = among-with_numbers old new k in grind (arith, nat_tests)
+among_new old new k h = let parts = among_with old new k in grind (arith, nat_tests)
 
 -- ---- fields
 
@@ -173,13 +175,6 @@ whole_numbers schema rows (Map home items) = refl
 whole_numbers schema rows (Array home []) = refl
 whole_numbers schema rows (Array home (v ∷ vs)) = refl
 whole_numbers schema rows (Set home items) = refl
-
--- an empty row holds nothing
-pub emptied_holds : (r : Row) → held_in (emptied r) ≡ []
-emptied_holds (Struct class fields) = refl
-emptied_holds (Map home items) = refl
-emptied_holds (Array home values) = refl
-emptied_holds (Set home items) = refl
 
 -- a row without its places is of the row's kind
 pub emptied_kind : (r : Row) → same_kind (emptied r) r ≡ true

@@ -1,7 +1,7 @@
 -- The blocks of new rows, each whole, in the order in which operations name them.
 use Rattle.std.proofs.Common.{◌≡◌, ◌≤◌, ◌+◌, ℕ, zero, suc, Bool, true, false, not, cond, ◌||◌, List, [], ◌∷◌, ◌++◌, length, filter, Option, Some, None, refl, sym, ap, subst, ◌∙◌, ◌==◌, arith, append-nil}
 use Rattle.std.specs.Option.{option_map_or}
-use Rattle.std.proofs.lemmas.Bool.{eqb-true}
+use Rattle.std.proofs.lemmas.Bool.{eqb-true, or_right, or_parts}
 use Rattle.std.proofs.lemmas.Bool.Decides.{nat_tests}
 use Rattle.schema_model.specs.Classes.{Schema}
 use Rattle.state_model.specs.declared.row.Row.{Row}
@@ -9,7 +9,7 @@ use Rattle.state_model.specs.declared.row.Row.TheVariants.{Struct}
 use Rattle.state_model.specs.declared.row.RowEntry.{RowEntry}
 use Rattle.state_model.specs.Rows.{row_at, is_live, held_in, emptied}
 use Rattle.state_model.specs.Reached.{is_among, reached}
-use Rattle.state_laws.proofs.Numbers.{live_row}
+use Rattle.state_laws.proofs.Numbers.{live_row, among_both}
 use Rattle.state_laws.proofs.ReachedLaws.{reached_least}
 use Rattle.wire_model.specs.Edits.{Edit}
 use Rattle.wire_model.specs.Effect.{apply_edits, edited_row}
@@ -17,10 +17,11 @@ use Rattle.wire_model.specs.Patch.{named_in, kind_in, block_of, next_named, new_
 use Rattle.wire_laws.proofs.LinkedRows.{CarriesKinds, whole_carries}
 use Rattle.wire_laws.proofs.NamedNumbers.{whole_held, held_whole}
 use Rattle.wire_laws.proofs.RowLaw.{whole_law}
-use Rattle.wire_laws.proofs.Looks.{Looks, looked, one_more, block_looks, among_both, some_of}
+use Rattle.wire_laws.proofs.Looks.{Looks, looked, one_more, block_looks, some_of}
 use Rattle.wire_laws.proofs.CommonPhase.{Ready, fold-append_blocks, looks_same, already}
 use Rattle.std.proofs.lemmas.Option.{same_Some}
-use Rattle.wire_laws.proofs.Bools.{or_right, or_moved, in_either, neither, same_bool}
+use Rattle.state_laws.proofs.Tests.{both_ways}
+use Rattle.wire_laws.proofs.Bools.{or_moved, in_either}
 use Rattle.wire_laws.proofs.EditSteps.{closed_opened}
 
 -- ---- the next number
@@ -147,7 +148,7 @@ new_block schema old new now worked named n b [] r l fresh gone is_named is_new 
     (already old new now worked named n b l (looks_empty old new worked named n b fresh gone is_named is_new ∙ ap Some same) is_new) (λ k. refl) (sym (append-nil named))
 new_block schema old new now worked named n b (e ∷ es) r l fresh gone is_named is_new edits =
     let leads = whole_law schema new b (r.new_formed n b is_new) in
-    let still_named : is_among n (named ++ named_in (e ∷ es)) ≡ true = among_both n named (named_in (e ∷ es)) ∙ ap (λ x. x || is_among n (named_in (e ∷ es))) is_named in
+    let still_named : is_among n (named ++ named_in (e ∷ es)) ≡ true = among_both named (named_in (e ∷ es)) n ∙ ap (λ x. x || is_among n (named_in (e ∷ es))) is_named in
     block_looks old new now worked named (record { holder = n; edits = e ∷ es }) (emptied b) b l (subst (CarriesKinds new) edits (whole_carries schema new b))
     (looks_empty old new worked (named ++ named_in (e ∷ es)) n b fresh gone still_named is_new) (ap (λ es. edited_row es (emptied b)) (sym edits) ∙ leads) is_new
 
@@ -223,7 +224,7 @@ tracks_more schema old new worked done named rest n b r t i is_new = record {
   done_is = λ k. ap (λ x. (n == k) || x) (t.done_is k) ∙ sym (or_moved (n == k) (worked k) (is_live old k));
   named_new = λ k h.
       in_either (is_among k rest) (is_among k more) (is_live new k) (λ e. t.named_new k (i.behind k e)) (λ e. r.new_links n k b is_new (whole_held schema new b k e))
-      (sym (among_both k rest more) ∙ h);
+      (sym (among_both rest more k) ∙ h);
   both = λ k o live. or_right (n == k) (worked k) (t.both k o live);
   holds = λ a m x w is held. holds_more a m x w is held;
 }
@@ -232,7 +233,7 @@ tracks_more schema old new worked done named rest n b r t i is_new = record {
     more = named_in (whole_edits schema new b)
 
     told : (m : ℕ) → ((is_among m (n ∷ done)) || (is_among m rest || is_among m more)) ≡ true → (is_among m (n ∷ done) || is_among m (rest ++ more)) ≡ true
-    told m h = ap (λ x. is_among m (n ∷ done) || x) (among_both m rest more) ∙ h
+    told m h = ap (λ x. is_among m (n ∷ done) || x) (among_both rest more m) ∙ h
 
     holds_old : (m : ℕ) → (is_among m done || is_among m named) ≡ true → ((is_among m (n ∷ done)) || (is_among m rest || is_among m more)) ≡ true
     holds_old m h =
@@ -254,19 +255,19 @@ looks_next : (schema : Schema) (old new now : List RowEntry) (worked : ℕ → B
     → Looks old new now worked named → Tracks old new worked done named → IsNext done named n rest → row_at new n ≡ Some b
     → Looks old new (apply_edits (block_of n (whole_edits schema new b)) now) (one_more n worked) (rest ++ named_in (whole_edits schema new b))
 looks_next schema old new now worked done named rest n b r l t i is_new =
-    let fresh = neither (worked n) (is_live old n) (sym (t.done_is n) ∙ i.fresh) in
+    let fresh = or_parts (worked n) (is_live old n) (sym (t.done_is n) ∙ i.fresh) in
     looks_named old new (apply_edits (block_of n (whole_edits schema new b)) now) (one_more n worked) (named ++ more) (rest ++ more)
     (new_block schema old new now worked named n b (whole_edits schema new b) r l fresh.0 fresh.1 i.is_named is_new refl)
-    (λ k w o. among_both k named more ∙ (ap (λ x. x || is_among k more) (seen k w o) ∙ sym (among_both k rest more)))
+    (λ k w o. among_both named more k ∙ (ap (λ x. x || is_among k more) (seen k w o) ∙ sym (among_both rest more k)))
   where
     more : List ℕ
     more = named_in (whole_edits schema new b)
 
     seen : (k : ℕ) → ((n == k) || worked k) ≡ false → is_live old k ≡ false → is_among k named ≡ is_among k rest
     seen k w o =
-        let parts = neither (n == k) (worked k) w in
+        let parts = or_parts (n == k) (worked k) w in
         let undone_k : is_among k done ≡ false = t.done_is k ∙ (ap (λ x. x || is_live old k) parts.1 ∙ o) in
-        same_bool (is_among k named) (is_among k rest) (λ e. left_out (is_among k done) (n == k) (is_among k rest) undone_k parts.0 (i.all k e)) (i.behind k)
+        both_ways (is_among k named) (is_among k rest) (λ e. left_out (is_among k done) (n == k) (is_among k rest) undone_k parts.0 (i.all k e)) (i.behind k)
 
 -- what the new blocks with so much fuel do
 abbrev NewLaw : Schema → List RowEntry → List RowEntry → ℕ → Type 0

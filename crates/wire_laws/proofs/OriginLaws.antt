@@ -1,7 +1,7 @@
 -- What holds of rows whose places are each as in one row or as in another: what they hold, their keys, and what operations leave of them.
 use Rattle.std.proofs.Common.{◌≡◌, ℕ, Bool, true, false, ◌||◌, ◌&&◌, ◌==◌, List, map, Option, Some, None, refl, sym, ap, ◌∙◌, subst, bytes_eq, arith}
 use Rattle.std.specs.List.{list_all, list_any, flat_map}
-use Rattle.std.proofs.lemmas.Bool.{eqb-true}
+use Rattle.std.proofs.lemmas.Bool.{eqb-true, or_left, or_right}
 use Rattle.std.proofs.lemmas.Bool.Decides.{nat_tests}
 use Rattle.lists.proofs.RisingLaws.{find_key}
 use Rattle.schema_model.specs.Classes.{Schema}
@@ -24,25 +24,17 @@ use Rattle.state_laws.proofs.Tests.{list_any-map, StandsIn, list_all_wider, all_
 use Rattle.wire_model.specs.Effect.{edited_row}
 use Rattle.wire_model.specs.Patch.{row_edits, whole_edits, map_item}
 use Rattle.wire_laws.proofs.Forms.{IsFormed}
-use Rattle.wire_laws.proofs.Values.{same_is, same_self}
+use Rattle.state_laws.proofs.SameValues.{same_is, same_self}
 use Rattle.wire_laws.proofs.EditSteps.{all_each}
 use Rattle.wire_laws.proofs.EditedPlaces.{all_places, edited_places, whole_places}
 use Rattle.wire_laws.proofs.Origins.{has_field, has_value, has_key, some_row, IsFrom}
 
 -- ---- tests
 
--- one of two holds where the first does
-either_first : (x y : Bool) → x ≡ true → (x || y) ≡ true
-either_first x y h = grind (arith, nat_tests)
-
--- one of two holds where the second does
-either_second : (x y : Bool) → y ≡ true → (x || y) ≡ true
-either_second x y h = grind (arith, nat_tests)
-
 -- one of two wider tests holds where one of two does
 either_wider : (x y u v : Bool) → (x ≡ true → u ≡ true) → (y ≡ true → v ≡ true) → (x || y) ≡ true → (u || v) ≡ true
-either_wider true y u v f g h = either_first u v (f refl)
-either_wider false y u v f g h = either_second u v (g h)
+either_wider true y u v f g h = or_left u v (f refl)
+either_wider false y u v f g h = or_right u v (g h)
 
 -- a row that passes a test passes a wider one
 some_wider : (p q : Row → Bool) → ((r : Row) → p r ≡ true → q r ≡ true) → (o : Option Row) → some_row p o ≡ true → some_row q o ≡ true
@@ -79,17 +71,17 @@ own_places p q k (Set home items) f g h =
 pub from_client : (b : Option Row) (r : Row) → IsFrom (Some r) b r
 from_client b r =
     own_places (λ i v. has_field i v r || some_row (has_field i v) b) (λ v. has_value v r || some_row (has_value v) b) (λ n key. has_key n key r || some_row (has_key n key) b) r
-    (λ i v t. either_first (has_field i v r) (some_row (has_field i v) b) t)
-    (λ v t. either_first (has_value v r) (some_row (has_value v) b) t)
-    (λ n key t. either_first (has_key n key r) (some_row (has_key n key) b) t)
+    (λ i v t. or_left (has_field i v r) (some_row (has_field i v) b) t)
+    (λ v t. or_left (has_value v r) (some_row (has_value v) b) t)
+    (λ n key t. or_left (has_key n key r) (some_row (has_key n key) b) t)
 
 -- each place of the second row is one of its own
 pub from_goal : (a : Option Row) (r : Row) → IsFrom a (Some r) r
 from_goal a r =
     own_places (λ i v. some_row (has_field i v) a || has_field i v r) (λ v. some_row (has_value v) a || has_value v r) (λ n key. some_row (has_key n key) a || has_key n key r) r
-    (λ i v t. either_second (some_row (has_field i v) a) (has_field i v r) t)
-    (λ v t. either_second (some_row (has_value v) a) (has_value v r) t)
-    (λ n key t. either_second (some_row (has_key n key) a) (has_key n key r) t)
+    (λ i v t. or_right (some_row (has_field i v) a) (has_field i v r) t)
+    (λ v t. or_right (some_row (has_value v) a) (has_value v r) t)
+    (λ n key t. or_right (some_row (has_key n key) a) (has_key n key r) t)
 
 -- an empty row has no place that is of neither
 pub from_emptied : (a b : Option Row) (r : Row) → IsFrom a b (emptied r)

@@ -1,8 +1,7 @@
 -- What number the operation on one place names, and what the operations on all places of a row name.
-use Rattle.std.proofs.Common.{◌≡◌, ℕ, Bool, true, false, cond, ◌||◌, ◌==◌, List, [], ◌∷◌, ◌++◌, Option, Some, None, refl, sym, ap, ◌∙◌, true≢false, append-nil, ◌⊎◌, inl, inr, arith}
+use Rattle.std.proofs.Common.{◌≡◌, ℕ, Bool, true, false, cond, ◌||◌, List, [], ◌∷◌, ◌++◌, Option, Some, None, refl, sym, ap, ◌∙◌, true≢false, append-nil, ◌⊎◌, inl, inr}
 use Rattle.std.specs.List.{list_any, flat_map}
 use Rattle.std.specs.Option.{option_map_or}
-use Rattle.std.proofs.lemmas.Bool.Decides.{nat_tests}
 use Rattle.std.proofs.lemmas.List.Folds.{list_any-append}
 use Rattle.std.proofs.lemmas.Grind.{flat_map-append}
 use Rattle.schema_model.specs.declared.value.Value.{Value}
@@ -10,24 +9,14 @@ use Rattle.schema_model.specs.declared.value.Value.TheVariants.{Whole, Str, Trut
 use Rattle.state_model.specs.declared.row.RowEntry.{RowEntry}
 use Rattle.state_model.specs.Values.{held_by, same_value}
 use Rattle.state_model.specs.declared.place.Wanted.{Wanted}
-use Rattle.state_model.specs.Reached.{is_among, with_number, with_numbers}
+use Rattle.state_model.specs.Reached.{is_among}
 use Rattle.wire_model.specs.declared.op.OpKey.{OpKey}
 use Rattle.wire_model.specs.Edits.{Edit, Add, Carried}
 use Rattle.wire_model.specs.Patch.{carried, changed_place, place_edit, named_in, linked_number}
+use Rattle.state_laws.proofs.Numbers.{among_passes}
+use Rattle.state_laws.proofs.SameValues.{same_is}
 
 -- ---- tests over lists
-
--- an item of a flat map passes where an item of one of its parts passes
-pub any-flat_map : {X A : Type 0} (p : A → Bool) (f : X → List A) (xs : List X) → list_any p (flat_map f xs) ≡ list_any (λ x. list_any p (f x)) xs
-any-flat_map p f [] = refl
-any-flat_map p f (x ∷ xs) = list_any-append p (f x) (flat_map f xs) ∙ ap (λ b. list_any p (f x) || b) (any-flat_map p f xs)
-
--- where one number of a list passes, the list has one that passes
-pub any_number : (p : ℕ → Bool) (ns : List ℕ) (n : ℕ) → is_among n ns ≡ true → p n ≡ true → list_any p ns ≡ true
-any_number p [] n h t = cc
-any_number p (k ∷ ns) n h t =
-    let go : (b : Bool) → (k == n) ≡ b → list_any p (k ∷ ns) ≡ true = elim [ true ↦ λ e. let same : k ≡ n = grind (arith, nat_tests) in grind (arith, nat_tests) | false ↦ λ e. let rest = any_number p ns n (rw e at h) t in grind (arith, nat_tests) ] in
-    go (k == n) refl
 
 -- a list with a number that passes has such a number
 pub some_number : {X : Type 0} (p : X → Bool) (xs : List X) → list_any p xs ≡ true → (x : X) × (p x ≡ true)
@@ -35,18 +24,6 @@ some_number p [] h = absurd cc
 some_number p (x ∷ xs) h =
     let go : (b : Bool) → p x ≡ b → (y : _) × (p y ≡ true) = elim [ true ↦ λ e. (x, e) | false ↦ λ e. some_number p xs (rw e at h) ] in
     go (p x) refl
-
--- ---- numbers with others
-
--- what is among the numbers with one more
-pub among-with_number : (ns : List ℕ) (n k : ℕ) → is_among k (with_number ns n) ≡ ((n == k) || is_among k ns)
-among-with_number [] n k = refl
-among-with_number (m ∷ ns) n k = grind (arith, nat_tests, among-with_number ns n k)
-
--- what is among the numbers with others
-pub among-with_numbers : (ns ms : List ℕ) (k : ℕ) → is_among k (with_numbers ns ms) ≡ (is_among k ns || is_among k ms)
-among-with_numbers ns [] k = grind (arith, nat_tests)
-among-with_numbers ns (m ∷ ms) k = grind (arith, nat_tests, among-with_numbers (with_number ns m) ms k, among-with_number ns m k)
 
 -- ---- one place
 
@@ -70,22 +47,7 @@ changed_numbers key new_key (Link n) c = refl
 
 -- equal values hold the same
 pub same_held : (u v : Value) → same_value u v ≡ true → held_by u ≡ held_by v
-same_held (Link k) (Link n) h = let same : k ≡ n = grind (arith, nat_tests) in cc
-same_held (Link k) (Whole z) h = absurd cc
-same_held (Link k) (Str t) h = absurd cc
-same_held (Link k) (Truth b) h = absurd cc
-same_held (Whole y) (Whole z) h = refl
-same_held (Whole y) (Str t) h = refl
-same_held (Whole y) (Truth b) h = refl
-same_held (Whole y) (Link n) h = absurd cc
-same_held (Str s) (Whole z) h = refl
-same_held (Str s) (Str t) h = refl
-same_held (Str s) (Truth b) h = refl
-same_held (Str s) (Link n) h = absurd cc
-same_held (Truth a) (Whole z) h = refl
-same_held (Truth a) (Str t) h = refl
-same_held (Truth a) (Truth b) h = refl
-same_held (Truth a) (Link n) h = absurd cc
+same_held u v h = ap held_by (same_is u v h)
 
 -- the operation on a place that is new names what its value holds
 added_numbers : (key : OpKey) (rows : List RowEntry) (wanted : Option Wanted) (v : Value) → named_in (Add key (carried rows wanted v) ∷ []) ≡ held_by v
@@ -137,4 +99,4 @@ places_name key new_key rows wanted old new ns m h =
 pub places_named : (key new_key : ℕ → OpKey) (rows : List RowEntry) (wanted : ℕ → Option Wanted) (old new : ℕ → Option Value) (ns : List ℕ) (n m : ℕ) → is_among n ns ≡ true → is_among m (held_at (new n)) ≡ true → is_among m (held_at (old n)) ≡ false → is_among m (named_in (places_edits key new_key rows wanted old new ns)) ≡ true
 places_named key new_key rows wanted old new ns n m h t g =
     let f : ℕ → List Edit = λ k. place_edit (key k) (new_key k) rows (wanted k) (old k) (new k) in
-    named_by_places m f ns ∙ any_number (λ k. is_among m (named_in (f k))) ns n h (place_named (key n) (new_key n) rows (wanted n) (old n) (new n) m t g)
+    named_by_places m f ns ∙ among_passes (λ k. is_among m (named_in (f k))) ns n h (place_named (key n) (new_key n) rows (wanted n) (old n) (new n) m t g)

@@ -20,7 +20,8 @@ use Rattle.wire_model.specs.declared.op.OpKey.TheVariants.{Field, Item}
 use Rattle.wire_model.specs.Edits.{Edit, Add, Replace, DeleteAdd, Delete, Carried, carried_value}
 use Rattle.wire_model.specs.Effect.{Body, Fields, Elements, effect}
 use Rattle.wire_model.specs.Patch.{carried, changed_place, place_edit, either_number, field_edits, set_edits}
-use Rattle.wire_laws.proofs.Values.{same_is, carried_is}
+use Rattle.state_laws.proofs.SameValues.{same_is}
+use Rattle.wire_laws.proofs.Values.{carried_is}
 use Rattle.wire_laws.proofs.Runs.{Between, Stepped, Waits, whole_run}
 
 module _ {E : Type 0} (key : E → ℕ) (value : E → Value) (made : ℕ → Value → E) (wrap : List E → Body) (place : ℕ → OpKey) where

@@ -15,9 +15,12 @@ use Rattle.state_model.specs.Sound.{differ}
 use Rattle.wire_model.specs.Edits.{Edit, Clear}
 use Rattle.wire_model.specs.Effect.{Slots, effect, closed, closed_slots, has_link, push_link, drop_link}
 use Rattle.wire_model.specs.Patch.{stands_in, kept_of, gone_of, same_values, drop_edit, push_edit, ref_edits}
-use Rattle.wire_laws.proofs.Values.{same_is, same_value_sym, same_values_is}
+use Rattle.state_laws.proofs.SameValues.{same_is, same_value_sym}
+use Rattle.state_laws.proofs.FittingRows.{differ_filtered}
+use Rattle.state_laws.proofs.Tests.{list_all_filtered}
+use Rattle.wire_laws.proofs.Values.{same_values_is}
 use Rattle.wire_laws.proofs.SlotRuns.{closed_slots-append, closed_slots-map}
-use Rattle.wire_laws.proofs.LinkLists.{filter-filter, filter_keeps, filter_all, list_all-filter, differ-filter, differ_apart, without_gone}
+use Rattle.wire_laws.proofs.LinkLists.{filter-filter, filter_keeps, filter_all, differ_apart, without_gone}
 
 -- ---- one operation
 
@@ -82,7 +85,7 @@ module _ (home declared : Home) (schema : Schema) (rows : List RowEntry) where
   drops_close (Truth a ∷ gs) slots l d = cc
   drops_close (Link n ∷ gs) slots l d =
       let dropped = drop_filters n slots d in
-      let rest = drops_close gs (drop_link n slots) l (rw dropped (differ-filter (λ v. not (same_value (Link n) v)) (closed_slots slots) d)) in (
+      let rest = drops_close gs (drop_link n slots) l (rw dropped (differ_filtered (λ v. not (same_value (Link n) v)) (closed_slots slots) d)) in (
         rest.0,
         rest.1,
         rest.2 ∙ ap (filter (λ v. not (stands_in gs v))) dropped
@@ -94,8 +97,8 @@ module _ (home declared : Home) (schema : Schema) (rows : List RowEntry) where
       → Closes (map Some old) (flat_map drop_edit (gone_of new old) ++ map (push_edit schema rows declared) (gone_of old new)) new
   kept_close old new d l e k is =
       let base = closed_slots-map old in
-      let gone_links : list_all is_link (gone_of new old) ≡ true = list_all-filter (λ v. not (stands_in new v)) is_link old l in
-      let new_links : list_all is_link (gone_of old new) ≡ true = list_all-filter (λ v. not (stands_in old v)) is_link new k in
+      let gone_links : list_all is_link (gone_of new old) ≡ true = list_all_filtered is_link (λ v. not (stands_in new v)) old l in
+      let new_links : list_all is_link (gone_of old new) ≡ true = list_all_filtered is_link (λ v. not (stands_in old v)) new k in
       let dropped = drops_close (gone_of new old) (map Some old) gone_links (rw base d) in
       let left : Closes (map Some old) (flat_map drop_edit (gone_of new old)) (kept_of new old) =
       (dropped.0, dropped.1, dropped.2 ∙ ap (filter (λ v. not (stands_in (gone_of new old) v))) base ∙ without_gone new old) in

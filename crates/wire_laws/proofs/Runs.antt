@@ -1,29 +1,15 @@
 -- A run over numbers, at each of which operations bring what stands there from old to new.
-use Rattle.std.proofs.Common.{◌≡◌, ◌≢◌, ℕ, suc, ◌<◌, Bool, true, false, ◌||◌, ◌==◌, List, [], ◌∷◌, map, None, ◌⊎◌, inl, inr, refl, sym, ap, ◌∙◌, arith}
+use Rattle.std.proofs.Common.{◌≡◌, ◌≢◌, ℕ, suc, ◌<◌, Bool, true, false, ◌==◌, List, [], ◌∷◌, map, None, ◌⊎◌, inl, inr, refl, sym, ap, ◌∙◌, arith}
 use Rattle.std.specs.List.{fold, flat_map}
 use Rattle.std.proofs.lemmas.List.Sums.{fold-append}
 use Rattle.std.proofs.lemmas.Bool.Decides.{nat_tests}
 use Rattle.lists.specs.Rising.{RisesFrom, find}
-use Rattle.lists.proofs.RisingLaws.{same_rising, RisesFrom-put}
-use Rattle.state_model.specs.Reached.{is_among, with_number, with_numbers}
+use Rattle.lists.proofs.RisingLaws.{same_rising}
+use Rattle.state_model.specs.Reached.{is_among}
 use Rattle.wire_model.specs.Patch.{either_number}
+use Rattle.state_laws.proofs.Numbers.{among_with, rises_with}
 
 -- ---- the numbers of two lists
-
--- a number is among those with one more
-is_among-with_number : (ns : List ℕ) (n k : ℕ) → is_among k (with_number ns n) ≡ ((n == k) || is_among k ns)
-is_among-with_number [] n k = refl
-is_among-with_number (m ∷ ns) n k = grind (arith, nat_tests, is_among-with_number ns n k)
-
--- a number is among those with others where it is among either
-is_among-with_numbers : (ns ms : List ℕ) (k : ℕ) → is_among k (with_numbers ns ms) ≡ (is_among k ns || is_among k ms)
-is_among-with_numbers ns [] k = grind (arith, nat_tests)
-is_among-with_numbers ns (m ∷ ms) k = grind (arith, nat_tests, is_among-with_numbers (with_number ns m) ms k, is_among-with_number ns m k)
-
--- the numbers rise
-RisesFrom-with_numbers : (ns ms : List ℕ) → RisesFrom (λ n. n) 0 ns → RisesFrom (λ n. n) 0 (with_numbers ns ms)
-RisesFrom-with_numbers ns [] r = r
-RisesFrom-with_numbers ns (m ∷ ms) r = RisesFrom-with_numbers (with_number ns m) ms (RisesFrom-put (λ n. n) 0 m ns r (omega arith))
 
 -- what stands below the first isn't there
 is_among_below : (low : ℕ) (ns : List ℕ) (k : ℕ) → RisesFrom (λ n. n) low ns → k < low → is_among k ns ≡ false
@@ -44,7 +30,7 @@ module _ {E : Type 0} (key : E → ℕ) where
   -- a number that isn't among the numbers of old and new is found in neither
   in_neither : (old new : List E) (k : ℕ) → is_among k (either_number (map key old) (map key new)) ≡ false → (find key k old ≡ None) × (find key k new ≡ None)
   in_neither old new k h =
-      let split = is_among-with_numbers (map key old) (map key new) k in
+      let split = among_with (map key old) (map key new) k in
       let a : is_among k (map key old) ≡ false = grind (arith, nat_tests) in
       let b : is_among k (map key new) ≡ false = grind (arith, nat_tests) in
       (none_found old k a, none_found new k b)
@@ -120,4 +106,4 @@ module _ {E : Type 0} (key : E → ℕ) (old new : List E) where
   pub whole_run : {B X : Type 0} (act : B → X → B) (wrap : List E → B) (edits_at : ℕ → List X)
       (step : (u : ℕ) (us : List ℕ) (es : List E) → is_among u us ≡ false → Between (u ∷ us) es → (next : List E) × (fold act (wrap es) (edits_at u) ≡ wrap next) × Stepped u es next)
       → RisesFrom key 0 old → RisesFrom key 0 new → fold act (wrap old) (flat_map edits_at (either_number (map key old) (map key new))) ≡ wrap new
-  whole_run act wrap edits_at step r s = run act wrap edits_at step (either_number (map key old) (map key new)) 0 old (RisesFrom-with_numbers (map key old) (map key new) (RisesFrom-keys key 0 old r)) s (starts r)
+  whole_run act wrap edits_at step r s = run act wrap edits_at step (either_number (map key old) (map key new)) 0 old (rises_with (map key old) (map key new) (RisesFrom-keys key 0 old r)) s (starts r)

@@ -17,7 +17,8 @@ use Rattle.wire_model.specs.declared.op.OpKey.TheVariants.{Item}
 use Rattle.wire_model.specs.Edits.{Edit}
 use Rattle.wire_model.specs.Effect.{Body, Slots, effect, closed, closed_slots, put_slot, add_slot, empty_slot}
 use Rattle.wire_model.specs.Patch.{carried, changed_place, place_edit, slot_edits}
-use Rattle.wire_laws.proofs.Values.{same_is, carried_is}
+use Rattle.state_laws.proofs.SameValues.{same_is}
+use Rattle.wire_laws.proofs.Values.{carried_is}
 
 -- ---- slots without holes
 

@@ -2,7 +2,7 @@
 use Rattle.std.proofs.Common.{◌≡◌, ℕ, Bool, true, false, not, cond, ◌||◌, List, [], ◌∷◌, length, filter, ◌==◌, eq-eqb, Option, Some, None, refl, sym, ap, subst, ◌∙◌}
 use Rattle.std.specs.Prelude.{nat_lt}
 use Rattle.std.specs.Option.{option_map}
-use Rattle.std.proofs.lemmas.Bool.{and_parts, eqb-true}
+use Rattle.std.proofs.lemmas.Bool.{and_parts, eqb-true, false_from_ne_true}
 use Rattle.lists.specs.Rising.{RisesFrom}
 use Rattle.lists.proofs.RisingLaws.{RisesFrom-filter, find-filter_passes}
 use Rattle.schema_model.specs.Classes.{Schema}
@@ -36,7 +36,7 @@ use Rattle.wire_laws.proofs.KeptRows.{kept_rows_of}
 use Rattle.wire_laws.proofs.Keeping.{IsGoal, blocks_kept, patch_leads_all, kept_at_first}
 use Rattle.wire_laws.proofs.Leads.{patch_leads}
 use Rattle.std.proofs.lemmas.Option.{same_Some}
-use Rattle.wire_laws.proofs.Bools.{not_true}
+use Rattle.wire_laws.proofs.LinkedRows.{missing_row}
 
 -- ---- two views
 
@@ -201,13 +201,6 @@ left_agrees schema old new M N now old_are new_are agree k = record {
 
 -- ---- no cycle
 
-none_of : (rows : List RowEntry) (n : ℕ) → is_live rows n ≡ false → row_at rows n ≡ None
-none_of rows n gone = by_row (row_at rows n) refl
-  where
-    by_row : (o : Option Row) → row_at rows n ≡ o → row_at rows n ≡ None
-    by_row None is = is
-    by_row (Some r) is = absurd (let e = live_at rows n r is in cc)
-
 only_first : (a b : Bool) → (a || b) ≡ true → b ≡ false → a ≡ true
 only_first true b h f = refl
 only_first false b h f = cc
@@ -219,7 +212,7 @@ left_holds : (schema : Schema) (old new : List RowEntry) (M N : List Pair) (now 
 left_holds schema old new M N now n m a old_rises new_rises k is held =
     let chosen = row_chosen (λ i. not (is_live (permitted schema new N) i)) now n in
     let parts = outside_row (is_live (permitted schema new N) n) (row_at now n) a (sym chosen ∙ is) in
-    let unshared : row_at (shared schema new) n ≡ None = none_of (shared schema new) n (not_shared n parts.0) in
+    let unshared : row_at (shared schema new) n ≡ None = missing_row (shared schema new) n (not_shared n parts.0) in
     let holders = from_held (row_at (permitted schema old M) n) (row_at (shared schema new) n) a m (k.origin n a parts.1) held in
     let first = only_first _ _ holders (ap (some_row (λ x. is_among m (held_in x))) unshared) in
     by_client (row_at (permitted schema old M) n) refl first
@@ -229,7 +222,7 @@ left_holds schema old new M N now n m a old_rises new_rises k is held =
     outside_row false o a h = (refl, h)
 
     not_shared : (n : ℕ) → is_live (permitted schema new N) n ≡ false → is_live (shared schema new) n ≡ false
-    not_shared n gone = not_true (is_live (shared schema new) n) (λ live.
+    not_shared n gone = false_from_ne_true (is_live (shared schema new) n) (λ live.
         let s = at_live (shared schema new) n live in
         let w = shared_within schema new N n s.0 new_rises s.1 in
         let there = live_at (permitted schema new N) n w.0 w.1 in cc)

@@ -2,6 +2,7 @@
 use Rattle.std.proofs.Common.{◌≡◌, ℕ, zero, suc, Bool, true, false, cond, ◌||◌, ◌==◌, inl, inr, List, [], ◌∷◌, ◌++◌, length, map, Option, Some, None, refl, sym, ap, subst, ◌∙◌, arith}
 use Rattle.std.specs.Option.{option_map_or}
 use Rattle.std.proofs.lemmas.Bool.Decides.{nat_tests}
+use Rattle.std.proofs.lemmas.Bool.{or_left, or_right}
 use Rattle.schema_model.specs.Classes.{Schema}
 use Rattle.state_model.specs.declared.row.Row.{Row}
 use Rattle.state_model.specs.declared.row.Row.TheVariants.{Struct}
@@ -9,7 +10,7 @@ use Rattle.state_model.specs.declared.row.RowEntry.{RowEntry}
 use Rattle.state_model.specs.Rows.{numbers_of, row_at, is_live, emptied, kinds_of}
 use Rattle.state_model.specs.Reached.{is_among, freed}
 use Rattle.state_model.specs.Sound.{are_rows_of}
-use Rattle.state_laws.proofs.Numbers.{at_live, live_at}
+use Rattle.state_laws.proofs.Numbers.{at_live, live_at, among_both}
 use Rattle.state_laws.proofs.RowsOf.{rows_rise, rows_fit}
 use Rattle.wire_model.specs.Edits.{Edit, EditBlock, told, told_blocks}
 use Rattle.wire_model.specs.Effect.{apply_edits}
@@ -17,15 +18,15 @@ use Rattle.wire_model.specs.Grammar.{known_after}
 use Rattle.wire_model.specs.Patch.{named_in, named_by_blocks, block_of, common_block, common_blocks, next_named, new_edits, new_blocks, row_edits, patch_edits}
 use Rattle.wire_model.specs.Resolved.{holder_kind, resolved_ops, known_behind, resolved_blocks, applied}
 use Rattle.wire_laws.specs.PatchLaw.{Patchable}
-use Rattle.wire_laws.proofs.Bools.{or-none, or_moved, or_left, or_right}
-use Rattle.wire_laws.proofs.LinkedRows.{CarriesKinds, row_carries, whole_carries}
-use Rattle.wire_laws.proofs.Looks.{among_both}
-use Rattle.wire_laws.proofs.CommonPhase.{blocks_for}
-use Rattle.wire_laws.proofs.Keeping.{LeadsTo, AllLead, patch_leads_all}
-use Rattle.wire_laws.proofs.Leads.{named_one, patch_leads}
-use Rattle.wire_laws.proofs.ToldValues.{Knows, kind_of}
+use Rattle.wire_laws.proofs.Bools.{or-none, or_moved}
+use Rattle.wire_laws.proofs.LinkedRows.{CarriesKinds}
+use Rattle.wire_laws.proofs.CommonPhase.{blocks_for, named_block}
+use Rattle.wire_laws.proofs.Keeping.{LeadsTo, AllLead, patch_leads_all, carries_of}
+use Rattle.wire_laws.proofs.Leads.{patch_leads}
+use Rattle.wire_laws.proofs.ToldValues.{Knows}
 use Rattle.wire_laws.proofs.ToldKnown.{known_with, knows_first, is_live-kinds_of, knows_after, knows_behind, lives_behind}
 use Rattle.wire_laws.proofs.ToldEdits.{EditsMean, row_means, whole_means}
+use Rattle.wire_laws.proofs.KindLaws.{kind_of}
 
 -- ---- the operations of a block
 
@@ -47,14 +48,6 @@ block_means schema new b rows l =
     elim l.leads [
       | inl h ↦ subst (EditsMean schema new (emptied l.row)) (sym h.2) (row_means schema new h.0 l.row rows fit)
       | inr h ↦ subst (EditsMean schema new (emptied l.row)) (sym h) (whole_means schema new l.row rows fit)
-    ]
-
--- they carry the kinds of their links
-block_carries : (schema : Schema) (new : List RowEntry) (b : EditBlock) → LeadsTo schema new b → CarriesKinds new b.edits
-block_carries schema new b l =
-    elim l.leads [
-      | inl h ↦ subst (CarriesKinds new) (sym h.2) (row_carries schema new h.0 l.row)
-      | inr h ↦ subst (CarriesKinds new) (sym h) (whole_carries schema new l.row)
     ]
 
 -- a known holder is known as its new row without its places
@@ -87,7 +80,7 @@ Follows-append (a ∷ front) back there f g = (
   f.0,
   Follows-append front back (λ n. there n || is_among n (named_in a.edits)) f.1
       (follows_wider back (λ n. there n || is_among n (named_in a.edits ++ named_by_blocks front)) (λ n. (there n || is_among n (named_in a.edits)) || is_among n (named_by_blocks front))
-      (λ n h. or_moved (there n) (is_among n (named_in a.edits)) (is_among n (named_by_blocks front)) ∙ (ap (λ b. there n || b) (sym (among_both n (named_in a.edits) (named_by_blocks front))) ∙ h)) g),
+      (λ n h. or_moved (there n) (is_among n (named_in a.edits)) (is_among n (named_by_blocks front)) ∙ (ap (λ b. there n || b) (sym (among_both (named_in a.edits) (named_by_blocks front) n)) ∙ h)) g),
 )
 
 -- blocks that lead to new rows mean again what they were, where each holder is known or named before
@@ -96,7 +89,7 @@ pub blocks_mean : (schema : Schema) (new : List RowEntry) (bs : List EditBlock) 
 blocks_mean schema new [] known there rows k lives f l = refl
 blocks_mean schema new (b ∷ bs) known there rows k lives f l =
     let kind = holder_known new known b.holder l.0.row k (lives b.holder f.0) l.0.is_row in
-    let carries = block_carries schema new b l.0 in
+    let carries = carries_of schema new b l.0 in
     let ops = ops_mean schema new (emptied l.0.row) b.edits known k carries (block_means schema new b rows l.0) in
     let edits = ap (λ h. resolved_ops schema h known (map told b.edits)) kind ∙ ops.0 in
     let behind = ap (λ h. known_behind schema h known (map told b.edits)) kind ∙ ops.1 in
@@ -148,7 +141,7 @@ follows_next schema new fuel done named there law h (Some p) is =
     let es = new_edits schema new p.0 in
     Follows-append (block_of p.0 es) (new_blocks fuel schema new (p.0 ∷ done) (p.1 ++ named_in es)) there (follows_one p.0 es there (h p.0 within.0))
     (law (p.0 ∷ done) (p.1 ++ named_in es) (λ n. there n || is_among n (named_by_blocks (block_of p.0 es)))
-    (λ n g. ap (λ ns. there n || is_among n ns) (named_one p.0 es) ∙ or_wider (is_among n p.1) (there n) (is_among n (named_in es)) (λ e. h n (within.1 n e)) (sym (among_both n p.1 (named_in es)) ∙ g)))
+    (λ n g. ap (λ ns. there n || is_among n ns) (named_block p.0 es) ∙ or_wider (is_among n p.1) (there n) (is_among n (named_in es)) (λ e. h n (within.1 n e)) (sym (among_both p.1 (named_in es) n) ∙ g)))
 
 -- so with so many new rows
 follows_new : (schema : Schema) (new : List RowEntry) (fuel : ℕ) (done named : List ℕ) (there : ℕ → Bool) → ((n : ℕ) → is_among n named ≡ true → there n ≡ true)

@@ -1,5 +1,5 @@
 -- What the operations that lead to a new row mean again after they were told, each against rows known to be what they are in the new rows.
-use Rattle.std.proofs.Common.{◌≡◌, ℕ, zero, suc, Bool, true, false, not, cond, max, ◌&&◌, ◌||◌, List, [], ◌∷◌, ◌++◌, length, map, Option, Some, None, refl, sym, ap, subst, ◌∙◌}
+use Rattle.std.proofs.Common.{◌≡◌, ℕ, Bool, true, false, not, cond, max, ◌&&◌, ◌||◌, List, [], ◌∷◌, ◌++◌, length, map, Option, Some, None, refl, sym, ap, subst, ◌∙◌}
 use Rattle.std.specs.List.{flat_map, slice_get, range_with_len, list_all}
 use Rattle.std.specs.Option.{option_map}
 use Rattle.lists.specs.Rising.{find}
@@ -27,6 +27,7 @@ use Rattle.wire_model.specs.Edits.{Edit, Add, Replace, DeleteAdd, Clear, AddByRe
 use Rattle.wire_model.specs.Grammar.{wants_at, resolved}
 use Rattle.wire_model.specs.Patch.{carried, changed_place, place_edit, field_value, map_item, item_value, item_key, set_value, slot_edits, same_values, kept_of, gone_of, stands_in, drop_edit, push_edit, ref_edits, row_edits, whole_start, whole_edits}
 use Rattle.wire_laws.proofs.ToldValues.{Knows, added_means, scalar_means}
+use Rattle.wire_laws.proofs.EditedPlaces.{all-slice_get}
 
 -- an operation on a holder of a kind means again what it was before it was told
 abbrev pub EditMeans : Schema → List RowEntry → Row → Edit → Type 0
@@ -106,12 +107,6 @@ found_passes {E} key value p es n v all is =
           ap (λ u. p u n) (sym same) ∙ (ap (p (value e)) (sym (find_key key n es e f)) ∙ passes)
     ] in go (find key n es) refl is
 
--- what stands at a place passes where all do
-at_passes : (p : Value → Bool) (vs : List Value) (at : ℕ) (v : Value) → list_all p vs ≡ true → slice_get vs at ≡ Some v → p v ≡ true
-at_passes p [] at v all is = cc
-at_passes p (u ∷ vs) zero v all is = let same : u ≡ v = cc in ap p (sym same) ∙ (and_parts (p u) (list_all p vs) all).0
-at_passes p (u ∷ vs) (suc at) v all is = at_passes p vs at v (and_parts (p u) (list_all p vs) all).1 is
-
 -- ---- a filtered array
 
 -- the operations that delete instances
@@ -147,7 +142,7 @@ array_means schema new home old values true rows all = refs_mean schema new home
 array_means schema new home old values false rows all =
     EditsMean-flat_map schema new (Array home []) _ (range_with_len 0 (max (length old) (length values)))
     (λ at. place_means schema new (Array home []) (Item at) (Item at) (item_wants schema home) (slice_get old at) (slice_get values at) rows refl refl
-    (λ v is. at_passes (λ v. fits_place schema new v (item_wants schema home)) values at v all is))
+    (λ v is. all-slice_get (λ v. fits_place schema new v (item_wants schema home)) values at v all is))
 
 -- ---- a row
 

@@ -8,16 +8,15 @@ use Rattle.state_model.specs.declared.row.RowEntry.{RowEntry}
 use Rattle.state_model.specs.Rows.{number_of, row_at, is_live, emptied, kinds_of, put_row}
 use Rattle.state_model.specs.Places.{same_kind}
 use Rattle.state_model.specs.Reached.{is_among}
-use Rattle.state_laws.proofs.Numbers.{at_live}
+use Rattle.state_laws.proofs.Numbers.{at_live, among_both}
 use Rattle.wire_model.specs.Edits.{Carried, Plain, Linked, Edit, Add, Replace, DeleteAdd, Delete, Clear, AddByRef, DeleteByRef}
 use Rattle.wire_model.specs.Effect.{carried_by}
 use Rattle.wire_model.specs.Grammar.{known_after}
 use Rattle.wire_model.specs.Patch.{kind_in, linked_number, named_in}
-use Rattle.wire_laws.proofs.Bools.{or-none, or_moved}
+use Rattle.wire_laws.proofs.Bools.{or-none, or_moved, or-swap}
 use Rattle.wire_laws.proofs.LinkedRows.{CarriesKind, CarriesKinds, row_at-put_row, is_live-put_row}
-use Rattle.wire_laws.proofs.Looks.{among_both}
-use Rattle.wire_laws.proofs.KindLaws.{emptied_of_kind}
-use Rattle.wire_laws.proofs.ToldValues.{Knows, kind_of}
+use Rattle.wire_laws.proofs.KindLaws.{emptied_of_kind, kind_of}
+use Rattle.wire_laws.proofs.ToldValues.{Knows}
 
 -- ---- what is known to begin with
 
@@ -100,13 +99,6 @@ pub knows_behind : (new : List RowEntry) (es : List Edit) (known : List RowEntry
 knows_behind new [] known c k = k
 knows_behind new (e ∷ es) known c k = knows_behind new es (known_after e known) c.1 (knows_after new e known c.0 k)
 
--- two truth values in either order
-or-swap : (a b : Bool) → (a || b) ≡ (b || (a || false))
-or-swap true true = refl
-or-swap true false = refl
-or-swap false true = refl
-or-swap false false = refl
-
 -- which numbers are known with what is carried
 carried_lives : (o : Option Carried) (known : List RowEntry) (n : ℕ) → is_live (with_known o known) n ≡ (is_live known n || is_among n (option_map_or linked_number o []))
 carried_lives None known n = or-none (is_live known n)
@@ -120,4 +112,4 @@ lives_behind (e ∷ es) known n =
     let here = option_map_or linked_number (carried_by e) [] in
     lives_behind es (known_after e known) n
     ∙ (ap (λ b. b || is_among n (named_in es)) (ap (λ rows. is_live rows n) (after_carried e known) ∙ carried_lives (carried_by e) known n)
-    ∙ (or_moved (is_live known n) (is_among n here) (is_among n (named_in es)) ∙ ap (λ b. is_live known n || b) (sym (among_both n here (named_in es)))))
+    ∙ (or_moved (is_live known n) (is_among n here) (is_among n (named_in es)) ∙ ap (λ b. is_live known n || b) (sym (among_both here (named_in es) n))))

@@ -25,15 +25,11 @@ use Rattle.state_laws.proofs.RowsOf.{rows_fit}
 use Rattle.wire_model.specs.Edits.{Linked, told_link, told_value}
 use Rattle.wire_model.specs.Grammar.{new_instance, new_collection, resolved_value}
 use Rattle.wire_model.specs.Patch.{kind_in, carried}
-use Rattle.wire_laws.proofs.KindLaws.{home_is, emptied_of_kind}
+use Rattle.wire_laws.proofs.KindLaws.{home_is, emptied_of_kind, kind_of}
 
 -- each known row that the new rows have is known as what it is there
 pub record Knows (new known : List RowEntry) : Type 0 where
   pub kinds : (n : ℕ) (r : Row) → row_at known n ≡ Some r → is_live new n ≡ true → r ≡ kind_in new n
-
--- the kind of a number that has a row
-pub kind_of : (rows : List RowEntry) (n : ℕ) (r : Row) → row_at rows n ≡ Some r → kind_in rows n ≡ emptied r
-kind_of rows n r is = ap (λ o. option_map_or emptied o (Struct 0 [])) is
 
 -- a value that is there is the one that it can only be, and so is what stands in for none
 either_way : {A : Type 0} (o : Option A) (rest goal : A) → ((x : A) → o ≡ Some x → x ≡ goal) → rest ≡ goal → option_map_or (λ x. x) o rest ≡ goal
