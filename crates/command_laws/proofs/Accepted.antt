@@ -57,7 +57,7 @@ pub record IsAccepted (schema : Schema) (s : State) (c : Command) (row : Option 
   pub absent : is_present c row ≡ false
 
 -- where no cause is the first, the command is accepted
-accepted : (schema : Schema) (s : State) (c : Command) (row : Option Row) → first_cause (causes_over schema s c row) ≡ None → IsAccepted schema s c row
+pub accepted : (schema : Schema) (s : State) (c : Command) (row : Option Row) → first_cause (causes_over schema s c row) ≡ None → IsAccepted schema s c row
 accepted schema s c row h =
     let none = none_hold (causes_over schema s c row) h in
     let values = none.1.1.1 in
@@ -121,7 +121,7 @@ collection_new schema home row h =
     by_field (Some f) h = collection_kind home f.shape row h
 
 -- the row that a command makes is new
-made_new : (schema : Schema) (c : Command) (row : Row) → made_row schema c ≡ Some row → IsNew schema row
+pub made_new : (schema : Schema) (c : Command) (row : Row) → made_row schema c ≡ Some row → IsNew schema row
 made_new schema (Make class) row h =
     let there = cond_some (nat_lt class (length schema.classes)) (Struct class []) row h in
     subst (λ (r : Row). IsNew schema r) there.1 (record { kind = there.0; empty = refl })
@@ -178,7 +178,7 @@ first_live rows n ns r h names =
     ap (is_live rows) (sym (same_Some n r names)) ∙ not-false (is_live rows n) (or_parts (not (is_live rows n)) (list_any (λ m. not (is_live rows m)) ns) h).0
 
 -- the row that a command changes is there
-holder_live : (rows : List RowEntry) (c : Command) → is_no_ref rows c ≡ false → (r : ℕ) → holder_of c ≡ Some r → is_live rows r ≡ true
+pub holder_live : (rows : List RowEntry) (c : Command) → is_no_ref rows c ≡ false → (r : ℕ) → holder_of c ≡ Some r → is_live rows r ≡ true
 holder_live rows (Make class) h r names = cc
 holder_live rows (MakeFor home) h r names = cc
 holder_live rows (Put n f v) h r names = first_live rows n (held_by v) r h names

@@ -28,7 +28,7 @@ abbrev pub AreHeld : List RowEntry → Type 0
 AreHeld rows = (n : ℕ) (r : Row) → row_at rows n ≡ Some r → (n == 0 || is_among n (all_held rows)) ≡ true
 
 -- rows that rise and have the same row at each number are the same
-same_rows : (xs ys : List RowEntry) → rising.RisesFrom number_of 0 xs → rising.RisesFrom number_of 0 ys → ((n : ℕ) → row_at xs n ≡ row_at ys n) → xs ≡ ys
+pub same_rows : (xs ys : List RowEntry) → rising.RisesFrom number_of 0 xs → rising.RisesFrom number_of 0 ys → ((n : ℕ) → row_at xs n ≡ row_at ys n) → xs ≡ ys
 same_rows xs ys r s h = same_rising number_of 0 0 xs ys r s (λ n. found_same xs ys n (h n))
 
 -- rows that rise and stand in each other are the same

@@ -1,0 +1,25 @@
+//! The shared graph under typed numbers: its rows, changed in place by commands, and who holds each.
+#![tactic(auto)]
+
+mod amounts;
+pub mod body;
+mod cause;
+mod changes;
+mod edits;
+mod graph;
+mod holders;
+mod holding;
+mod links;
+mod made;
+mod node;
+mod nodes;
+mod refusal;
+mod replaced;
+mod roomy_list;
+mod sweeping;
+mod table;
+mod totals;
+mod typed;
+mod walk;
+
+pub use table::Table;

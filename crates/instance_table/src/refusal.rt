@@ -1,0 +1,264 @@
+//! Why a command is refused: the first cause in their order.
+ghost use Rattle.std.specs.Prelude.{◌≡◌, ◌&&◌, not, IfOk, Some, false, is_ok, nat_lt, option_and_then, option_copied, true};
+ghost use Rattle.std.specs.Option.{option_map, option_map_or};
+ghost use Rattle.state_model.specs.Reached.{is_among};
+ghost use Rattle.state_model.specs.Rows.{is_live, row_at};
+ghost use Rattle.state_model.specs.Sound.{are_sound};
+ghost use Rattle.state_model.specs.State.{last_number};
+ghost use Rattle.state_model.specs.Commands.{first_cause, gives_number, holder_of, is_cycle, is_duplicate, is_no_ref, refusal_of, row_for, value_put};
+ghost use Rattle.instance_table.specs.Amounts.{is_text_full, limit_causes, link_causes, make_causes, value_causes};
+ghost use Rattle.instance_table.specs.Bodies.{next_in, row_of, takes_out};
+ghost use Rattle.instance_table.specs.Changes.{link_in, value_named};
+ghost use Rattle.instance_table.specs.Nodes.{node_at, rows_in};
+ghost use Rattle.instance_table.specs.Table.{IsExact, IsTable, state_in};
+
+use crate::amounts::place_text_after;
+use crate::body::Body;
+use crate::cause;
+use crate::graph::Graph;
+use crate::links::link_of;
+use crate::nodes::Nodes;
+use crate::replaced::{holder_of, value_put};
+use crate::totals::Totals;
+use crate::typed::is_wrong_type;
+use crate::walk::reaches;
+use schema_model::{Memory, RefNum, Schema, Value};
+use state_model::{Command, TableFault, is_filtered};
+use std::alloc::Global;
+
+/// How many rows a room may have.
+const ROWS_LIMIT: usize = 16_384;
+
+/// How many places a room may have.
+const PLACES_LIMIT: usize = 65_536;
+
+/// How many bytes all text values and map keys of a room may be.
+const TEXT_LIMIT: u128 = 4_194_304;
+
+/// The greatest reference number and item number.
+const LAST_NUMBER: u32 = 2_147_483_647;
+
+// Whether a number isn't live.
+fn is_dead(nodes: &Nodes, who: RefNum) -> bool
+    ensures { result ≡ not (is_live (rows_in nodes.now) who) }
+{
+    nodes.get(who).is_none()
+}
+
+// The link that has to be live: of the value that is put, or of the value that is taken out of a set.
+fn named_link(command: &Command) -> Option<RefNum>
+    ensures { result ≡ link_in (value_named command.now) }
+{
+    match command {
+        Command::Del(_, value) => link_of(Some(value)),
+        _ => link_of(value_put(command)),
+    }
+}
+
+// Whether the holder or the linked number isn't live.
+fn is_no_ref(nodes: &Nodes, command: &Command) -> bool
+    ensures { result ≡ is_no_ref (rows_in nodes.now) command.now }
+{
+    let Some(holder) = holder_of(command) else {
+        return false;
+    };
+    if is_dead(nodes, holder) {
+        return true;
+    }
+    match named_link(command) {
+        Some(link) => is_dead(nodes, link),
+        None => false,
+    }
+}
+
+// The first cause in what the command puts into a row.
+fn value_cause(schema: &Schema, nodes: &Nodes, command: &Command, body: &Body) -> Option<TableFault>
+    ensures { result ≡ first_cause (value_causes schema.now (rows_in nodes.now) command.now (row_of body.now)) }
+{
+    if cause::is_no_item(command, body) {
+        return Some(TableFault::NoItem);
+    }
+    if is_wrong_type(
+        schema,
+        nodes,
+        value_put(command),
+        cause::wanted_for(schema, command, body),
+    ) {
+        return Some(TableFault::WrongType);
+    }
+    if cause::is_past_range(value_put(command), cause::wanted_for(schema, command, body)) {
+        return Some(TableFault::OutOfRange);
+    }
+    None
+}
+
+// Whether the instance that a command links to reaches the row that it changes.
+fn is_cycle(alloc: Global, nodes: &Nodes, command: &Command) -> Result<bool, Memory>
+    ensures value { IfOk result (λ found. found ≡ is_cycle (rows_in nodes.now) (holder_of command.now) (value_put command.now)) }
+    ensures sure { takes_out command.now ≡ true → is_ok result ≡ true }
+{
+    match (holder_of(command), link_of(value_put(command))) {
+        (Some(holder), Some(link)) => reaches(alloc, nodes, link, holder),
+        _ => Ok(false),
+    }
+}
+
+// Whether a place of a holder holds a row.
+fn holds(nodes: &Nodes, holder: RefNum, who: RefNum) -> bool
+    ensures { result ≡ option_map_or (λ n. is_among holder n.holders) (node_at nodes.now who) false }
+{
+    match nodes.get(who) {
+        Some(node) => node.holders.has(holder),
+        None => false,
+    }
+}
+
+// Whether the instance that a command puts stands at another position of a filtered array. Who holds the instance tells
+// it without a look at the array.
+fn is_duplicate(
+    schema: &Schema,
+    nodes: &Nodes,
+    holder: RefNum,
+    command: &Command,
+    body: &Body,
+) -> bool
+    requires sound { are_sound schema.now (rows_in nodes.now) ≡ true }
+    requires exact { IsExact nodes.now }
+    requires there { row_at (rows_in nodes.now) holder ≡ Some (row_of body.now) }
+    ensures { result ≡ is_duplicate schema.now command.now (Some (row_of body.now)) }
+{
+    let Body::Array(home, values) = body else {
+        return false;
+    };
+    if !is_filtered(schema, *home) {
+        return false;
+    }
+    match command {
+        Command::Push(_, Value::Link(who)) => holds(nodes, holder, *who),
+        Command::SetAt(_, at, Value::Link(who)) => link_of(values.get(*at)) != Some(*who)
+            && holds(nodes, holder, *who),
+        _ => false,
+    }
+}
+
+// The first cause in the instance that the command links to.
+fn link_cause(
+    alloc: Global,
+    schema: &Schema,
+    nodes: &Nodes,
+    holder: RefNum,
+    command: &Command,
+    body: &Body,
+) -> Result<Option<TableFault>, Memory>
+    requires sound { are_sound schema.now (rows_in nodes.now) ≡ true }
+    requires exact { IsExact nodes.now }
+    requires there { row_at (rows_in nodes.now) holder ≡ Some (row_of body.now) }
+    ensures value { IfOk result (λ f. f ≡ first_cause (link_causes schema.now (rows_in nodes.now) command.now (row_of body.now))) }
+    ensures sure { takes_out command.now ≡ true → is_ok result ≡ true }
+{
+    if is_cycle(alloc, nodes, command)? {
+        return Ok(Some(TableFault::Cycle));
+    }
+    if is_duplicate(schema, nodes, holder, command, body) {
+        return Ok(Some(TableFault::Duplicate));
+    }
+    Ok(None)
+}
+
+// Whether there would be too many bytes of text.
+fn is_text_full(text: usize, command: &Command, body: &Body) -> bool
+    ensures { result ≡ is_text_full command.now (row_of body.now) text }
+{
+    value_put(command).is_some()
+        && !cause::is_present(command, body)
+        && place_text_after(text, command, body) > TEXT_LIMIT
+}
+
+// Whether the command gives an item number and none is left.
+fn is_number_spent(command: &Command, body: &Body) -> bool
+    ensures { result ≡ (gives_number command.now (Some (row_of body.now)) && nat_lt last_number (next_in body.now)) }
+{
+    let next = match body {
+        Body::Map(_, items) => items.given(),
+        Body::Set(_, items) => items.given(),
+        Body::Struct(..) | Body::Array(..) => 0,
+    };
+    cause::gives_number(command, body) && next > LAST_NUMBER
+}
+
+// The first cause in the limits.
+fn limit_cause(totals: Totals, command: &Command, body: &Body) -> Option<TableFault>
+    ensures { result ≡ first_cause (limit_causes command.now (row_of body.now) totals.places totals.text (next_in body.now)) }
+{
+    if cause::adds_place(command, body) && totals.places >= PLACES_LIMIT {
+        return Some(TableFault::PlacesFull);
+    }
+    if is_text_full(totals.text, command, body) {
+        return Some(TableFault::TextFull);
+    }
+    if cause::is_long(command) {
+        return Some(TableFault::TextTooLong);
+    }
+    if is_number_spent(command, body) {
+        return Some(TableFault::NumbersSpent);
+    }
+    if cause::is_present(command, body) {
+        return Some(TableFault::Present);
+    }
+    None
+}
+
+// The first cause of a command that makes a row.
+fn make_cause(rows: usize, given: u32) -> Option<TableFault>
+    ensures { result ≡ first_cause (make_causes rows given) }
+{
+    if rows >= ROWS_LIMIT {
+        return Some(TableFault::InstancesFull);
+    }
+    if given >= LAST_NUMBER {
+        return Some(TableFault::RefsSpent);
+    }
+    None
+}
+
+// The row that a command changes.
+fn body_for<'a>(nodes: &'a Nodes, command: &Command) -> Option<&'a Body>
+    ensures body { option_copied result ≡ option_map (λ n. n.body) (option_and_then (node_at nodes.now) (holder_of command.now)) }
+    ensures row { option_map row_of (option_copied result) ≡ row_for (rows_in nodes.now) command.now }
+{
+    let node = nodes.get(holder_of(command)?)?;
+    Some(&node.body)
+}
+
+/// Why a command is refused; None where it isn't.
+pub fn refusal(
+    alloc: Global,
+    schema: &Schema,
+    graph: &Graph,
+    given: u32,
+    totals: Totals,
+    command: &Command,
+) -> Result<Option<TableFault>, Memory>
+    requires { IsTable schema.now graph.now.nodes given totals.places totals.text }
+    ensures value { IfOk result (λ f. f ≡ refusal_of schema.now (state_in graph.now.nodes given) command.now) }
+    ensures sure { takes_out command.now ≡ true → is_ok result ≡ true }
+{
+    let nodes = graph.nodes();
+    if is_no_ref(nodes, command) {
+        return Ok(Some(TableFault::NoRef));
+    }
+    let body = body_for(nodes, command);
+    if cause::is_no_field(schema, command, body) {
+        return Ok(Some(TableFault::NoField));
+    }
+    let (Some(holder), Some(body)) = (holder_of(command), body) else {
+        return Ok(make_cause(nodes.len(), given));
+    };
+    if let Some(fault) = value_cause(schema, nodes, command, body) {
+        return Ok(Some(fault));
+    }
+    if let Some(fault) = link_cause(alloc, schema, nodes, holder, command, body)? {
+        return Ok(Some(fault));
+    }
+    Ok(limit_cause(totals, command, body))
+}

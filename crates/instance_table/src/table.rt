@@ -1,0 +1,215 @@
+//! The shared graph of a room.
+ghost use Rattle.std.specs.Prelude.{◌≡◌, ◌+◌, Err, IfOk, None, Ok, OnErr, OnOk, Some, false, is_ok, length, option_copied, slice_get, true};
+ghost use Rattle.state_model.specs.declared.command.TableFault.TheVariants as fault;
+ghost use Rattle.state_model.specs.Commands.{do_command, holder_of, refusal_of};
+ghost use Rattle.state_model.specs.State as state;
+ghost use Rattle.command_laws.specs.Kept.{IsKept};
+ghost use Rattle.instance_table.specs.Bodies.{takes_out};
+ghost use Rattle.instance_table.specs.Holders.{holders_of};
+ghost use Rattle.instance_table.specs.Table.{Answers, freed_numbers, new_table, value_of};
+
+use crate::body::Body;
+use crate::changes::change;
+use crate::graph::Graph;
+use crate::made::made;
+use crate::refusal::refusal;
+use crate::replaced::holder_of;
+use crate::roomy_list::RoomyList;
+use crate::sweeping::sweep;
+use crate::totals::{Totals, totals_after};
+use lists::Rising;
+use schema_model::{Memory, Place, RefNum, Schema, Value};
+use state_model::{Command, Rows, TableFault};
+use std::alloc::Global;
+use std::marker::Model;
+use std::sync::ledger::Ledger;
+use steps::Steps;
+
+/// The state of a room: rows under typed numbers, changed in place by commands. Of each row it knows the places that
+/// hold it.
+#[derive(Drop)]
+pub struct Table {
+    alloc: Global,
+    schema: Schema,
+    graph: Graph,
+    given: u32,
+    totals: Totals,
+    swept: RoomyList,
+}
+
+impl Model for Table {
+    ghost use Rattle.std.specs.Prelude.{◌≤◌, length};
+    ghost use Rattle.instance_table.specs.Table.{IsTable, TableState, state_in};
+
+    ghost Value = { TableState };
+
+    ghost view = { λ t. record { schema = t.schema; state = state_in t.graph.nodes t.given; swept = t.swept.numbers } };
+
+    ghost invariant = { λ t. IsTable t.schema t.graph.nodes t.given t.totals.places t.totals.text × (length t.graph.nodes ≤ t.swept.room) };
+}
+
+impl Table {
+    /// A table of the root alone.
+    pub fn new(alloc: Global, schema: Schema) -> Result<Table, Memory>
+        ensures { IfOk result (λ t. t ≡ new_table schema) }
+    {
+        let mut graph = Graph::new(alloc);
+        let mut swept = RoomyList::new(alloc);
+        swept.reserve(1)?;
+        let root = Body::Struct(schema.root, Rising::new(alloc));
+        graph.add(alloc, RefNum(0), root)?;
+        Ok(Table {
+            alloc,
+            schema,
+            graph,
+            given: 0,
+            totals: Totals { places: 0, text: 0 },
+            swept,
+        })
+    }
+
+    /// The schema. Every table's rows are sound and without a cycle.
+    pub fn schema(&self) -> &Schema
+        ensures value { result.now ≡ self.now.schema }
+        ensures kept { IsKept self.now.schema self.now.state }
+    {
+        &self.schema
+    }
+
+    /// Does a command, or answers the first cause for which it is refused. Some exactly for a command that makes a row:
+    /// the row's number. A refused command changes nothing, and one for which memory is wanting neither. Commands that
+    /// only take places out take no memory.
+    pub fn apply(&mut self, command: &Command) -> Result<Option<RefNum>, TableFault>
+        ensures answer { Answers (do_command self.old.schema self.old.state command.now) self.old self.new result }
+        ensures sure { result ≡ Err fault.Memory → takes_out command.now ≡ false }
+    {
+        let Ok(cause) = refusal(
+            self.alloc,
+            &self.schema,
+            &self.graph,
+            self.given,
+            self.totals,
+            command,
+        ) else {
+            return Err(TableFault::Memory);
+        };
+        if let Some(fault) = cause {
+            return Err(fault);
+        }
+        let Ok(made) = self.perform(command) else {
+            return Err(TableFault::Memory);
+        };
+        Ok(made)
+    }
+
+    // Does a command that isn't refused.
+    fn perform(&mut self, command: &Command) -> Result<Option<RefNum>, Memory>
+        requires { refusal_of self.old.schema self.old.state command.now ≡ None }
+        ensures ok { IfOk result (λ made. do_command self.old.schema self.old.state command.now ≡ Ok (self.new.state, made)) }
+        ensures schema { self.new.schema ≡ self.old.schema }
+        ensures swept { self.new.swept ≡ self.old.swept }
+        ensures err { OnErr result (self.new ≡ self.old) }
+        ensures sure { takes_out command.now ≡ true → is_ok result ≡ true }
+    {
+        match holder_of(command) {
+            Some(holder) => {
+                self.change(holder, command)?;
+                Ok(None)
+            }
+            None => self.make(command),
+        }
+    }
+
+    // Makes a row, where the command makes one.
+    fn make(&mut self, command: &Command) -> Result<Option<RefNum>, Memory>
+        requires makes { holder_of command.now ≡ None }
+        requires free { refusal_of self.old.schema self.old.state command.now ≡ None }
+        ensures ok { IfOk result (λ made. do_command self.old.schema self.old.state command.now ≡ Ok (self.new.state, made)) }
+        ensures schema { self.new.schema ≡ self.old.schema }
+        ensures swept { self.new.swept ≡ self.old.swept }
+        ensures err { OnErr result (self.new ≡ self.old) }
+    {
+        let Some(body) = made(self.alloc, &self.schema, command)? else {
+            return Ok(None);
+        };
+        let who = RefNum(self.given + 1);
+        self.swept.reserve(self.graph.len() + 1)?;
+        self.graph.add(self.alloc, who, body)?;
+        self.given += 1;
+        Ok(Some(who))
+    }
+
+    // Changes a row.
+    fn change(&mut self, holder: RefNum, command: &Command) -> Result<(), Memory>
+        requires changes { holder_of command.now ≡ Some holder }
+        requires free { refusal_of self.old.schema self.old.state command.now ≡ None }
+        ensures ok { OnOk result (do_command self.old.schema self.old.state command.now ≡ Ok (self.new.state, None)) }
+        ensures schema { self.new.schema ≡ self.old.schema }
+        ensures swept { self.new.swept ≡ self.old.swept }
+        ensures err { OnErr result (self.new ≡ self.old) }
+        ensures sure { takes_out command.now ≡ true → is_ok result ≡ true }
+    {
+        let totals = totals_after(self.totals, &self.graph, holder, command);
+        change(&mut self.graph, self.alloc, holder, command)?;
+        self.totals = totals;
+        Ok(())
+    }
+
+    /// The value in a place; None exactly where nothing is there.
+    pub fn read<L: Ledger>(&self, at: Place, steps: &mut Steps<L>) -> Option<&Value>
+        ensures value { option_copied result ≡ value_of self.now.state.rows at.holder at.key }
+        ensures cost { steps.new ≡ steps.old + 1 }
+    {
+        steps.tick();
+        let node = self.graph.get(at.holder)?;
+        node.body.value_at(at.key)
+    }
+
+    /// How many places hold a row.
+    pub fn count_of<L: Ledger>(&self, who: RefNum, steps: &mut Steps<L>) -> u32
+        ensures value { result ≡ length (holders_of self.now.state.rows who) }
+        ensures cost { steps.new ≡ steps.old + 1 }
+    {
+        steps.tick();
+        match self.graph.get(who) {
+            Some(node) => node.holders.len() as u32,
+            None => 0,
+        }
+    }
+
+    /// The holder of the n-th place that holds a row; None exactly where n isn't below their number. The places rise by
+    /// holder, and then by key.
+    pub fn holder_at<L: Ledger>(&self, who: RefNum, n: u32, steps: &mut Steps<L>) -> Option<RefNum>
+        ensures value { result ≡ slice_get (holders_of self.now.state.rows who) n }
+        ensures cost { steps.new ≡ steps.old + 1 }
+    {
+        steps.tick();
+        let node = self.graph.get(who)?;
+        node.holders.at(n as usize)
+    }
+
+    /// All rows.
+    pub fn rows(&self) -> Result<Rows, Memory>
+        ensures { IfOk result (λ r. r ≡ self.now.state.rows) }
+    {
+        self.graph.nodes().copy_rows(self.alloc)
+    }
+
+    /// Frees the rows that nothing holds, but for the root, and then those that only they held. Takes no memory.
+    pub fn sweep(&mut self)
+        ensures schema { self.new.schema ≡ self.old.schema }
+        ensures state { self.new.state ≡ state.swept self.old.state }
+        ensures swept { self.new.swept ≡ freed_numbers self.old.state.rows }
+    {
+        self.swept.clear();
+        sweep(&mut self.graph, &mut self.totals, &mut self.swept);
+        self.swept.sort();
+    }
+
+    /// The numbers that the last sweep freed, rising.
+    pub fn swept(&self) -> &[RefNum]
+        ensures { result.now ≡ self.now.swept }
+    {
+        self.swept.as_slice()
+    }
+}
