@@ -17,6 +17,13 @@ pub of_some : {P : Node → Type 0} (o : Option Node) → ((n : Node) → o ≡ 
 of_some None f = tt
 of_some (Some n) f = f n refl
 
+-- what is told of the node that is there, of this one, and the other way round
+pub told_of : (P : Node → Type 0) (o : Option Node) (n : Node) → o ≡ Some n → IfSome o P → P n
+told_of P o n e h = subst (λ q. IfSome q P) e h
+
+pub tell_of : (P : Node → Type 0) (o : Option Node) (n : Node) → o ≡ Some n → P n → IfSome o P
+tell_of P o n e h = subst (λ q. IfSome q P) (sym e) h
+
 -- what is told of the body of a number is told of the same body
 pub of_body : (P : Body → Type 0) (es fs : List (ℕ × Node)) (who : ℕ) → body_at fs who ≡ body_at es who → IfSome (node_at es who) (λ n. P n.body) → IfSome (node_at fs who) (λ n. P n.body)
 of_body P es fs who same h = from (node_at es who) (node_at fs who) same h

@@ -1,5 +1,5 @@
 -- The state of nodes after a command that changes a row.
-use Rattle.std.proofs.Common.{◌≡◌, ℕ, suc, ◌+◌, Bool, true, false, cond, ◌&&◌, ◌==◌, List, [], ◌∷◌, length, Option, Some, None, refl, sym, ap, ap₂, ◌∙◌, arith}
+use Rattle.std.proofs.Common.{◌≡◌, ℕ, suc, ◌+◌, Bool, true, false, cond, ◌&&◌, ◌==◌, List, length, Option, Some, None, refl, sym, ap, ap₂, ◌∙◌, arith}
 use Rattle.std.specs.Option.{option_map, is_some}
 use Rattle.std.proofs.lemmas.Bool.{true≢false}
 use Rattle.std.proofs.lemmas.Bool.Decides.{nat_tests}
@@ -21,10 +21,10 @@ use Rattle.instance_table.specs.declared.node.Node.{Node}
 use Rattle.instance_table.specs.declared.body.Body.{Body}
 use Rattle.instance_table.specs.declared.body.Body.TheVariants.{Struct, Map, Array, Set}
 use Rattle.instance_table.specs.Bodies.{row_of, given_of, body_from, next_in, given_by, edited_body}
-use Rattle.instance_table.specs.Nodes.{number_of, node_at, at_node, rows_in, counts_in, held_more, held_less, held_not}
+use Rattle.instance_table.specs.Nodes.{number_of, node_at, at_node, rows_in, counts_in, held_more, held_less}
 use Rattle.instance_table.specs.Changes.{edited_node, hold_link, let_go_link, let_go_each, link_in, row_cleared, place_changed, changed}
 use Rattle.instance_table.specs.Table.{state_in}
-use Rattle.instance_table.proofs.LetGoLaws.{body_at, body_same, body_let_go}
+use Rattle.instance_table.proofs.LetGoLaws.{body_at, body_same, body_let_go, length_let_go, rises_let_go}
 use Rattle.instance_table.proofs.ChangeLaws.{body_hold}
 use Rattle.instance_table.proofs.NodeLaws.{rises_at}
 use Rattle.instance_table.proofs.WaitingLaws.{node_at_edited, length-at_node}
@@ -77,10 +77,6 @@ changed_bodies c h es b at n = by_test (is_clear c)
 
 -- ---- what stays of the nodes
 
-rises_let_go : (ns : List ℕ) (h : ℕ) (es : List (ℕ × Node)) → RisesFrom number_of 0 es → RisesFrom number_of 0 (let_go_each ns h es)
-rises_let_go [] h es r = r
-rises_let_go (n ∷ ns) h es r = rises_let_go ns h (at_node n (held_not h) es) (rises_at n 0 (held_not h) es r)
-
 rises_hold : (link : Option ℕ) (h : ℕ) (es : List (ℕ × Node)) → RisesFrom number_of 0 es → RisesFrom number_of 0 (hold_link link h es)
 rises_hold None h es r = r
 rises_hold (Some k) h es r = rises_at k 0 (held_more h) es r
@@ -96,10 +92,6 @@ changed_rise c h b es r = by_test (is_clear c)
     by_test true = rises_at h 0 (edited_node c) (all_let_go h b es) (rises_let_go (held_in (row_of b)) h es r)
     by_test false =
         rises_link_let_go (link_in (replaced c (row_of b))) h (at_node h (edited_node c) (put_held c h es)) (rises_at h 0 (edited_node c) (put_held c h es) (rises_hold (link_in (value_put c)) h es r))
-
-length_let_go : (ns : List ℕ) (h : ℕ) (es : List (ℕ × Node)) → length (let_go_each ns h es) ≡ length es
-length_let_go [] h es = refl
-length_let_go (n ∷ ns) h es = length_let_go ns h (at_node n (held_not h) es) ∙ length-at_node n (held_not h) es
 
 pub length_hold : (link : Option ℕ) (h : ℕ) (es : List (ℕ × Node)) → length (hold_link link h es) ≡ length es
 length_hold None h es = refl

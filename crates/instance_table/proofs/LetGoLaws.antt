@@ -2,6 +2,7 @@
 use Rattle.std.proofs.Common.{◌≡◌, ℕ, ◌+◌, ◌<◌, Bool, true, false, cond, ◌==◌, List, [], ◌∷◌, ◌++◌, length, Option, Some, None, refl, sym, ap, ◌∙◌}
 use Rattle.std.specs.List.{flat_map, slice_get}
 use Rattle.std.specs.Option.{option_map, option_map_or}
+use Rattle.lists.specs.Rising.{RisesFrom}
 use Rattle.schema_model.specs.declared.value.Value.{Value}
 use Rattle.schema_model.specs.declared.value.Value.TheVariants as value
 use Rattle.state_model.specs.Values.{held_by}
@@ -11,10 +12,11 @@ use Rattle.command_laws.specs.Accounts.{held_in_value}
 use Rattle.instance_table.specs.declared.node.Node.{Node}
 use Rattle.instance_table.specs.declared.body.Body.{Body}
 use Rattle.instance_table.specs.Bodies.{row_of}
-use Rattle.instance_table.specs.Nodes.{node_at, at_node, rows_in, counts_in, held_not}
+use Rattle.instance_table.specs.Nodes.{number_of, node_at, at_node, rows_in, counts_in, held_not}
 use Rattle.instance_table.specs.Changes.{values_at, link_in, let_go_each}
 use Rattle.instance_table.proofs.LinkLaws.{held_first, held_next, links_all}
-use Rattle.instance_table.proofs.WaitingLaws.{node_at_edited}
+use Rattle.instance_table.proofs.WaitingLaws.{length-at_node, node_at_edited}
+use Rattle.instance_table.proofs.NodeLaws.{rises_at}
 use Rattle.instance_table.proofs.StateLaws.{rows_same, counts_same, held_found}
 
 -- ---- bodies stay
@@ -90,3 +92,12 @@ let_go_end h n start es whole so =
     of_node : (o : Option Node) → option_map_or (λ (x : Node). held_in (row_of x.body)) o [] ≡ flat_map held_by (option_map_or (λ (n : Node). values_in (row_of n.body)) o [])
     of_node None = refl
     of_node (Some n) = refl
+
+-- letting go leaves how many nodes there are, and that they rise
+pub length_let_go : (ns : List ℕ) (h : ℕ) (es : List (ℕ × Node)) → length (let_go_each ns h es) ≡ length es
+length_let_go [] h es = refl
+length_let_go (n ∷ ns) h es = length_let_go ns h (at_node n (held_not h) es) ∙ length-at_node n (held_not h) es
+
+pub rises_let_go : (ns : List ℕ) (h : ℕ) (es : List (ℕ × Node)) → RisesFrom number_of 0 es → RisesFrom number_of 0 (let_go_each ns h es)
+rises_let_go [] h es r = r
+rises_let_go (n ∷ ns) h es r = rises_let_go ns h (at_node n (held_not h) es) (rises_at n 0 (held_not h) es r)

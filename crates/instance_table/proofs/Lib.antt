@@ -14,6 +14,8 @@ pub mod NodeStates
 pub mod ChangedStates
 pub mod ChangedHolders
 pub mod ChangedTables
+pub mod FreedNumbers
+pub mod FreedNodes
 pub mod SweepLaws
 pub mod SweptTables
 pub mod HolderLists
@@ -21,3 +23,4 @@ pub mod NewTables
 pub mod TableSteps
 pub mod AmountLaws
 pub mod RefusalLaws
+pub mod LaterLaws

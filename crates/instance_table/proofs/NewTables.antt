@@ -2,7 +2,7 @@
 use Rattle.std.proofs.Common.{◌≡◌, ℕ, suc, ◌+◌, ◌<◌, Bool, true, false, cond, ◌&&◌, ◌==◌, List, [], ◌∷◌, ◌++◌, length, Option, Some, None, Ok, nat_le, refl, sym, ap, ap₂, ◌∙◌, subst, arith}
 use Rattle.std.specs.Option.{is_some, option_map, option_map_or, option_or}
 use Rattle.std.proofs.lemmas.Bool.Decides.{nat_tests}
-use Rattle.std.proofs.lemmas.List.{append-nil, length_push}
+use Rattle.std.proofs.lemmas.List.{append-nil, length-map, length_push}
 use Rattle.lists.specs.Rising.{IsAbove, find}
 use Rattle.lists.proofs.RisingLaws.{find-append, find_above, put-last}
 use Rattle.schema_model.specs.Classes.{Schema}
@@ -27,7 +27,7 @@ use Rattle.plain_rows.specs.Links.{held_at}
 use Rattle.instance_table.specs.declared.node.Node.{Node}
 use Rattle.instance_table.specs.declared.body.Body.{Body}
 use Rattle.instance_table.specs.Bodies.{row_of, given_of, body_from}
-use Rattle.instance_table.specs.Nodes.{number_of, node_at, rows_in, counts_in}
+use Rattle.instance_table.specs.Nodes.{number_of, node_at, rows_in, counts_in, entry_row}
 use Rattle.instance_table.specs.Table.{IsExact, IsTable, state_in}
 use Rattle.instance_table.proofs.ExactLaws.{Held, NodeHeld, by_nodes}
 use Rattle.instance_table.proofs.ChangedHolders.{held_exact, held_put, row_counts}
@@ -61,10 +61,6 @@ counts_above k (e ∷ es) a = from (given_of e.1.body) (counts_above k es a.1)
     from : (o : Option ℕ) → IsAbove who_of k (counts_in es) → IsAbove who_of k (option_map_or (λ (n : ℕ). let c : ItemCount = record { who = e.0; count = n } in c ∷ []) o [] ++ counts_in es)
     from None rest = rest
     from (Some n) rest = (a.0, rest)
-
-length_rows : (es : List (ℕ × Node)) → length (rows_in es) ≡ length es
-length_rows [] = refl
-length_rows (e ∷ es) = ap suc (length_rows es)
 
 -- ---- a new row
 
@@ -233,7 +229,7 @@ made_table schema es given places text c row t free names made =
         exact = new_exact schema es given places text row t a empty.held;
         placed = placed;
         texts = texts;
-        rows_few = (let less : length (rows_in es) < rows_limit = grind (arith, nat_tests, rows_left) in omega (arith, less, length_push es (k, new_node row), length_rows es));
+        rows_few = (let less : length (rows_in es) < rows_limit = grind (arith, nat_tests, rows_left) in omega (arith, less, length_push es (k, new_node row), length-map es entry_row));
         places_few = t.places_few;
         text_few = t.text_few;
         given_few = (let less : given < last_number = grind (arith, nat_tests, refs_left) in omega (arith, less));

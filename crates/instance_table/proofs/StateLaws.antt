@@ -26,6 +26,10 @@ row_found (e ∷ es) n = grind (arith, nat_tests, row_found es n)
 pub row_there : (es : List (ℕ × Node)) (n : ℕ) (o : Option Node) → o ≡ node_at es n → state.row_at (rows_in es) n ≡ option_map (λ (x : Node). row_of x.body) o
 row_there es n o h = row_found es n ∙ ap (option_map (λ (x : Node). row_of x.body)) (sym h)
 
+-- the row of a node
+pub node_row : (es : List (ℕ × Node)) (n : ℕ) (x : Node) → node_at es n ≡ Some x → state.row_at (rows_in es) n ≡ Some (row_of x.body)
+node_row es n x h = row_found es n ∙ ap (option_map (λ (y : Node). row_of y.body)) h
+
 -- what the row of a number holds, by the node that was found
 pub held_found : (es : List (ℕ × Node)) (n : ℕ) (o : Option Node) → o ≡ node_at es n
     → held_at (rows_in es) n ≡ option_map_or (λ (x : Node). state.held_in (row_of x.body)) o []

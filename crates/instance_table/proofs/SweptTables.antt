@@ -13,7 +13,7 @@ use Rattle.instance_table.specs.declared.node.Node.{Node}
 use Rattle.instance_table.specs.Holders.{AscendsFrom}
 use Rattle.instance_table.specs.Nodes.{rows_in, counts_in}
 use Rattle.instance_table.specs.Table.{IsExact, IsTable, state_in, freed_numbers}
-use Rattle.instance_table.proofs.SweepLaws.{swept_numbers}
+use Rattle.instance_table.proofs.FreedNumbers.{swept_numbers}
 
 -- nodes of the rows and the counts that are left have the swept state
 pub swept_state : (es fs : List (ℕ × Node)) (given : ℕ) → rows_in fs ≡ freed (rows_in es) → counts_in fs ≡ filter (λ (c : ItemCount). is_live (freed (rows_in es)) c.who) (counts_in es) → state_in fs given ≡ swept (state_in es given)

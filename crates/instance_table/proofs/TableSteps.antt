@@ -1,5 +1,5 @@
 -- What a table knows before a command that changes a row, and what it keeps where memory was wanting.
-use Rattle.std.proofs.Common.{◌≡◌, inl, inr, ℕ, ◌≤◌, true, false, ◌&&◌, List, length, Option, Some, None, Result, Err, IfSome, nat_lt, refl, sym, ap, ap₂, ◌∙◌, subst, arith}
+use Rattle.std.proofs.Common.{◌≡◌, inl, inr, ℕ, ◌≤◌, true, false, ◌&&◌, List, length, Option, Some, None, Result, Err, nat_lt, refl, sym, ap, ap₂, ◌∙◌, subst, arith}
 use Rattle.std.specs.Option.{is_some, option_map, option_map_or, option_and_then}
 use Rattle.std.proofs.lemmas.Bool.{true≢false}
 use Rattle.std.proofs.lemmas.Bool.Decides.{nat_tests}
@@ -24,14 +24,10 @@ use Rattle.instance_table.specs.Nodes.{node_at, rows_in, counts_in, held_more, h
 use Rattle.instance_table.specs.Changes.{IsUndone, hold_link, let_go_link, link_in}
 use Rattle.instance_table.specs.Table.{Answers, IsExact, IsTable, TableState, state_in}
 use Rattle.instance_table.proofs.ExactLaws.{HoldersAre, link_held, link_let_go, same_held}
-use Rattle.instance_table.proofs.StateLaws.{counts_same, row_found, rows_same}
+use Rattle.instance_table.proofs.StateLaws.{counts_same, node_row, row_found, rows_same}
 use Rattle.instance_table.proofs.NodeStates.{next_found, nodes_rise}
 use Rattle.instance_table.proofs.ChangedStates.{given_counts, length_hold, length_link_let_go}
 use Rattle.instance_table.proofs.ChangedHolders.{exact_held, held_exact, row_counts}
-
--- what is told of the node that is there, of this one
-pub told_of : (P : Node → Type 0) (o : Option Node) (n : Node) → o ≡ Some n → IfSome o P → P n
-told_of P o n e h = subst (λ q. IfSome q P) e h
 
 -- the row that a command changes is there
 pub holder_stands : (schema : Schema) (es : List (ℕ × Node)) (given h : ℕ) (c : Command) → refusal_of schema (state_in es given) c ≡ None → holder_of c ≡ Some h → (n : Node) × (node_at es h ≡ Some n)
@@ -43,10 +39,6 @@ holder_stands schema es given h c free names = by_node (node_at es h) refl (sym 
     by_node : (o : Option Node) → node_at es h ≡ o → option_map (λ (x : Node). row_of x.body) (node_at es h) ≡ row_at (rows_in es) h → (n : Node) × (node_at es h ≡ Some n)
     by_node (Some n) e found = (n, e)
     by_node None e found = absurd (true≢false (sym live ∙ (ap is_some (sym found) ∙ ap (λ o. is_some (option_map (λ (x : Node). row_of x.body) o)) e)))
-
--- the row of a node
-pub node_row : (es : List (ℕ × Node)) (h : ℕ) (n : Node) → node_at es h ≡ Some n → row_at (rows_in es) h ≡ Some (row_of n.body)
-node_row es h n at = row_found es h ∙ ap (option_map (λ (x : Node). row_of x.body)) at
 
 -- no row has more text or more places than all have
 pub row_text_few : (schema : Schema) (es : List (ℕ × Node)) (given places text h : ℕ) (n : Node) → IsTable schema es given places text → node_at es h ≡ Some n → row_text (row_of n.body) ≤ text_limit

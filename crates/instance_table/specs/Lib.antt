@@ -3,6 +3,7 @@ pub mod Bodies
 pub mod Changes
 pub mod Graph
 pub mod Holders
+pub mod Later
 pub mod Lists
 pub mod Nodes
 pub mod Table

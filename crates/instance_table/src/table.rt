@@ -6,6 +6,7 @@ ghost use Rattle.state_model.specs.State as state;
 ghost use Rattle.command_laws.specs.Kept.{IsKept};
 ghost use Rattle.instance_table.specs.Bodies.{takes_out};
 ghost use Rattle.instance_table.specs.Holders.{holders_of};
+ghost use Rattle.instance_table.specs.Later.{IsLater};
 ghost use Rattle.instance_table.specs.Table.{Answers, freed_numbers, new_table, value_of};
 
 use crate::body::Body;
@@ -78,9 +79,10 @@ impl Table {
 
     /// Does a command, or answers the first cause for which it is refused. Some exactly for a command that makes a row:
     /// the row's number. A refused command changes nothing, and one for which memory is wanting neither. Commands that
-    /// only take places out take no memory.
+    /// only take places out take no memory. What stays keeps its kind and its key, and no number is given again.
     pub fn apply(&mut self, command: &Command) -> Result<Option<RefNum>, TableFault>
         ensures answer { Answers (do_command self.old.schema self.old.state command.now) self.old self.new result }
+        ensures later { IsLater self.old.state self.new.state }
         ensures sure { result ≡ Err fault.Memory → takes_out command.now ≡ false }
     {
         let Ok(cause) = refusal(
@@ -199,6 +201,7 @@ impl Table {
     pub fn sweep(&mut self)
         ensures schema { self.new.schema ≡ self.old.schema }
         ensures state { self.new.state ≡ state.swept self.old.state }
+        ensures later { IsLater self.old.state self.new.state }
         ensures swept { self.new.swept ≡ freed_numbers self.old.state.rows }
     {
         self.swept.clear();

@@ -4,7 +4,7 @@ use Rattle.command_laws.specs.Accounts.{row_text}
 use Rattle.plain_rows.specs.Links.{held_at}
 use Rattle.instance_table.specs.Bodies.{row_of}
 use Rattle.instance_table.specs.Nodes.{rows_in}
-use Rattle.instance_table.proofs.SweepLaws.{asked_after, asked_before, asked_nothing}
+use Rattle.instance_table.proofs.FreedNodes.{asked_after, asked_before, asked_nothing}
 use Rattle.instance_table.proofs.sweeping.free.Goals as goal
 
 pub without-requires-clause-places : goal.without-requires-clause-places

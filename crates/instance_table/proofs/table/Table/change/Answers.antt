@@ -8,9 +8,9 @@ use Rattle.instance_table.specs.Bodies.{row_of}
 use Rattle.instance_table.specs.Changes.{changed}
 use Rattle.instance_table.specs.Nodes.{node_at}
 use Rattle.instance_table.specs.Table.{IsTable, TableState}
-use Rattle.instance_table.proofs.ChangeLaws.{of_some}
+use Rattle.instance_table.proofs.ChangeLaws.{of_some, told_of}
 use Rattle.instance_table.proofs.ChangedTables.{IsChanged, changed_table}
-use Rattle.instance_table.proofs.TableSteps.{IsBack, can_edit, holder_stands, row_text_few, told_of, undone_table}
+use Rattle.instance_table.proofs.TableSteps.{IsBack, can_edit, holder_stands, row_text_few, undone_table}
 use Rattle.instance_table.proofs.table.Table.change.Goals as goal
 
 pub totals_after-totals-requires-clause-text : goal.totals_after-totals-requires-clause-text
