@@ -5,7 +5,7 @@ use Rattle.std.proofs.lemmas.Bool.Decides.{nat_tests}
 use Rattle.state_model.specs.Reached.{is_among}
 use Rattle.state_model.specs.declared.command.Command.{Command}
 use Rattle.command_laws.specs.Accounts.{count_of, one_if}
-use Rattle.command_laws.proofs.Sweeping.{count_among}
+use Rattle.state_laws.proofs.Counts.{count_among}
 use Rattle.instance_table.specs.declared.node.Node.{Node}
 use Rattle.instance_table.specs.Holders.{AscendsFrom, with_holder, without_one}
 use Rattle.instance_table.specs.Nodes.{node_at, at_node, held_more, held_less, held_not, woken}

@@ -13,7 +13,7 @@ use Rattle.state_model.specs.State.{ItemCount}
 use Rattle.state_laws.proofs.Numbers.{row_chosen, holder_row}
 use Rattle.plain_rows.specs.Links.{held_at}
 use Rattle.command_laws.specs.Accounts.{count_of}
-use Rattle.command_laws.proofs.Sweeping.{count_among}
+use Rattle.state_laws.proofs.Counts.{count_among}
 use Rattle.instance_table.specs.declared.node.Node.{Node}
 use Rattle.instance_table.specs.declared.body.Body.{Body}
 use Rattle.instance_table.specs.Bodies.{given_of}

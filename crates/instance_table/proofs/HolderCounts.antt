@@ -2,13 +2,13 @@
 use Rattle.std.proofs.Common.{◌≡◌, ℕ, suc, ◌+◌, ◌<◌, Bool, true, false, cond, not, ◌&&◌, ◌==◌, List, [], ◌∷◌, ◌++◌, filter, map, Some, refl, sym, ap, ap₂, ◌∙◌, arith, leb}
 use Rattle.std.specs.Option.{option_map, option_map_or}
 use Rattle.std.proofs.lemmas.Bool.Decides.{nat_tests}
-use Rattle.std.proofs.lemmas.List.Sums.{sum_by-cons, sum_by-append}
 use Rattle.lists.specs.Rising.{RisesFrom, find}
 use Rattle.state_model.specs.declared.row.RowEntry.{RowEntry}
 use Rattle.state_model.specs.Reached.{is_among}
 use Rattle.state_model.specs.Rows.{held_in, number_of, row_at}
+use Rattle.state_laws.proofs.Counts as counts
+use Rattle.state_laws.proofs.Counts.{count_among, count_both}
 use Rattle.command_laws.specs.Accounts.{count_of, one_if}
-use Rattle.command_laws.proofs.Sweeping.{count_among}
 use Rattle.instance_table.proofs.HolderLaws.{AscendsFrom-lower, ascends_with, ascends_without}
 use Rattle.instance_table.specs.Holders.{AscendsFrom, holders_in, holders_of, with_holder, without_one}
 
@@ -17,11 +17,9 @@ one_is : (b : Bool) → one_if b ≡ cond b 1 0
 one_is true = refl
 one_is false = refl
 
+-- with one more in front
 pub count_first : (k n : ℕ) (ns : List ℕ) → count_of k (n ∷ ns) ≡ one_if (n == k) + count_of k ns
-count_first k n ns = sum_by-cons (λ m. cond (m == k) 1 0) n ns ∙ ap (λ x. x + count_of k ns) (sym (one_is (n == k)))
-
-pub count_both : (k : ℕ) (xs ys : List ℕ) → count_of k (xs ++ ys) ≡ count_of k xs + count_of k ys
-count_both k xs ys = sum_by-append (λ m. cond (m == k) 1 0) xs ys
+count_first k n ns = counts.count_first k n ns ∙ ap (λ x. x + count_of k ns) (sym (one_is (n == k)))
 
 -- ---- after an edit
 

@@ -30,7 +30,7 @@ use Rattle.state_model.specs.Commands.{adds_place, causes_over, first_cause, giv
 use Rattle.state_laws.proofs.Numbers.{live_row}
 use Rattle.command_laws.specs.Accounts.{count_of}
 use Rattle.command_laws.proofs.ListEdits.{list_all_removed}
-use Rattle.command_laws.proofs.Sweeping.{count_among}
+use Rattle.state_laws.proofs.Counts.{count_among}
 use Rattle.command_laws.proofs.SoundRows.{sound_rises, sound_row, sound_links}
 use Rattle.plain_rows.specs.Links.{held_at}
 use Rattle.instance_table.specs.declared.node.Node.{Node}

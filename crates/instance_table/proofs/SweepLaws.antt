@@ -14,7 +14,8 @@ use Rattle.state_model.specs.State.{ItemCount}
 use Rattle.state_laws.proofs.Numbers.{live_at, live_chosen, live_found, held_by_row}
 use Rattle.plain_rows.specs.Links.{held_at}
 use Rattle.command_laws.specs.Accounts.{count_of, one_if, row_text}
-use Rattle.command_laws.proofs.Sweeping.{count_among, freed_without, freed_settled}
+use Rattle.command_laws.proofs.Sweeping.{freed_without, freed_settled}
+use Rattle.state_laws.proofs.Counts.{count_among}
 use Rattle.command_laws.proofs.RowSums.{removed_row_places, removed_row_text}
 use Rattle.instance_table.specs.declared.node.Node.{Node}
 use Rattle.instance_table.specs.Bodies.{row_of, given_of}
@@ -23,7 +24,8 @@ use Rattle.instance_table.specs.Graph.{waits_at}
 use Rattle.instance_table.specs.Holders.{AscendsFrom}
 use Rattle.instance_table.specs.Nodes.{number_of, node_at, at_node, rows_in, counts_in, entry_counts, entry_row, rested}
 use Rattle.instance_table.specs.Table.{IsExact}
-use Rattle.instance_table.proofs.HolderCounts.{count_first, count_both}
+use Rattle.instance_table.proofs.HolderCounts.{count_first}
+use Rattle.state_laws.proofs.Counts.{count_both}
 use Rattle.instance_table.proofs.NodeLaws.{rises_at}
 use Rattle.instance_table.proofs.StateLaws.{row_found, rows_rise, rows_same, counts_same}
 use Rattle.instance_table.proofs.WaitingLaws.{length-at_node, node_at_edited}
