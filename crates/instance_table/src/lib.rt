@@ -18,7 +18,11 @@ mod replaced;
 mod roomy_list;
 mod sweeping;
 mod table;
+#[cfg(test)]
+mod tests;
 mod totals;
+#[cfg(test)]
+mod trial;
 mod typed;
 mod walk;
 
