@@ -1,32 +1,55 @@
-//! Work of a size, for measuring: `workload KERNEL ROWS` does the work of a kernel over so many rows, and prints
-//! a sum that a second run repeats. Without words, or with others, it prints nothing.
+//! Work of a size, for measuring: `workload KERNEL SIZE` does the work of a kernel once, `workload KERNEL SIZE TIMES` so
+//! many times, and prints a sum that a second run repeats. Without words, or with others, it prints nothing.
 #![tactic(auto)]
 
 ghost use Rattle.std.specs.Prelude.{◌≤◌, ◌^◌, IfOk, IfSome};
 
 mod classes;
+mod commands;
+mod fault;
 mod kernel;
+mod room;
+mod row_kernel;
 mod rows;
 mod schema;
 mod sums;
 #[cfg(test)]
 mod tests;
 
-use kernel::{Kernel, work};
-use rows::LARGEST;
+use fault::WorkFault;
+use kernel::{Kernel, work_often};
 use std::process::ExitCode;
 use std::{env, io};
 
-// The kernel that the words name, and the number of players: a player has two rows.
-fn asked(rt: &HostRuntime) -> io::Result<Option<(Kernel, u32)>>
-    ensures { IfOk result (λ asked. IfSome asked (λ a. a.1 ≤ 2 ^ 23)) }
+// The largest size.
+const LARGEST: u32 = 1 << 24;
+
+// What is to be done: the work of a kernel, of a size, so many times.
+#[derive(Clone, Copy)]
+struct Task {
+    kernel: Kernel,
+    size: u32,
+    times: u32,
+}
+
+// What the words ask for.
+fn asked(rt: &HostRuntime) -> io::Result<Option<Task>>
+    ensures { IfOk result (λ asked. IfSome asked (λ task. task.size ≤ 2 ^ 24)) }
 {
     let mut words = env::args(rt)?.skip(1);
     let (Some(name), Some(size)) = (words.next(), words.next()) else {
         return Ok(None);
     };
-    match (Kernel::named(&name), size.parse::<u32>()) {
-        (Some(kernel), Ok(rows)) if rows / 2 <= LARGEST => Ok(Some((kernel, rows / 2))),
+    let times = match words.next() {
+        Some(times) => times.parse::<u32>(),
+        None => Ok(1),
+    };
+    match (Kernel::named(&name), size.parse::<u32>(), times) {
+        (Some(kernel), Ok(size), Ok(times)) if size <= LARGEST => Ok(Some(Task {
+            kernel,
+            size,
+            times,
+        })),
         _ => Ok(None),
     }
 }
@@ -35,14 +58,15 @@ fn main(rt: HostRuntime) -> ExitCode {
     let Ok(asked) = asked(&rt) else {
         return ExitCode::from(4);
     };
-    let Some((kernel, players)) = asked else {
+    let Some(task) = asked else {
         return ExitCode::SUCCESS;
     };
-    match work(rt.alloc(), kernel, players) {
+    match work_often(rt.alloc(), task.kernel, task.size, task.times) {
         Ok(sum) => match println!(rt; "{sum}") {
             Ok(()) => ExitCode::SUCCESS,
             Err(_) => ExitCode::from(5),
         },
-        Err(_) => ExitCode::from(7),
+        Err(WorkFault::Refused(_)) => ExitCode::from(3),
+        Err(WorkFault::Memory) => ExitCode::from(7),
     }
 }

@@ -9,9 +9,6 @@ use plain_rows::{FieldValue, FieldValues, MapItem, MapItems, Row, RowEntry, Rows
 use schema_model::{Home, Pair, RefNum, Value};
 use std::alloc::Global;
 
-/// The most players that are made.
-pub const LARGEST: u32 = 1 << 23;
-
 const PLAYERS_HOME: Home = Home {
     class: STATE,
     field: 0,

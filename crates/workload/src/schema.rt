@@ -28,7 +28,13 @@ fn classes(alloc: Global) -> Result<Classes, Memory> {
     Ok(classes)
 }
 
-fn push_class(alloc: Global, classes: &mut Classes, name: &str, own: Fields) -> Result<(), Memory> {
+/// Adds a class without a parent.
+pub fn push_class(
+    alloc: Global,
+    classes: &mut Classes,
+    name: &str,
+    own: Fields,
+) -> Result<(), Memory> {
     let name = Text::from_text(alloc, name)?;
     classes.push(Class {
         name,
@@ -52,11 +58,13 @@ fn player_fields(alloc: Global) -> Result<Fields, Memory> {
     Ok(fields)
 }
 
-fn number() -> Item {
+/// The kind of a number.
+pub fn number() -> Item {
     Item::Scalar(ScalarKind::Number)
 }
 
-fn push_field(
+/// Adds a field.
+pub fn push_field(
     alloc: Global,
     fields: &mut Fields,
     name: &str,

@@ -1,20 +1,32 @@
-use crate::kernel::{Kernel, work};
+use crate::kernel::{Kernel, work_often};
 use std::test::Fail;
 
-// Sums over three players, worked out by hand.
+// Sums over three players or six of what else there is, worked out by hand; that of the random numbers was worked out apart.
 #[test]
-fn sums_up_what_three_players_give(rt: HostRuntime) -> Result<(), Fail> {
+fn sums_up_what_small_sizes_give(rt: HostRuntime) -> Result<(), Fail> {
     let sums = [
-        (Kernel::Reached, 28),
-        (Kernel::Freed, 25),
-        (Kernel::Permitted, 98),
-        (Kernel::Patch, 106),
-        (Kernel::ApplyBlocks, 127),
-        (Kernel::ReadSchema, 63 * 21),
+        ("reached", 28),
+        ("freed", 25),
+        ("permitted", 98),
+        ("patch", 106),
+        ("apply_blocks", 127),
+        ("read_schema", 63 * 21),
+        ("things", 85686067434),
+        ("players", 61),
+        ("full", 1 + 2 + 3 + 4 + 5 + 6 + 7 + 8),
+        ("numbers_back", 8),
+        ("numbers_front", 8),
+        ("chain_up", 36),
+        ("chain_down", 36),
+        ("held_often", 12),
+        ("held_swept", 12),
     ];
-    for (kernel, sum) in sums {
-        let found = work(rt.alloc(), kernel, 3)?;
-        assert_eq!(rt; found, sum);
+    for (name, sum) in sums {
+        let Some(kernel) = Kernel::named(name) else {
+            return Err(Fail::new("no kernel"));
+        };
+        let found = work_often(rt.alloc(), kernel, 6, 2)?;
+        assert_eq!(rt; found, 2 * sum, "{name}");
     }
     Ok(())
 }
