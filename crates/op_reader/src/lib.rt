@@ -1,0 +1,14 @@
+//! Operations read from state bytes.
+#![tactic(auto)]
+
+pub mod known;
+mod put;
+mod read;
+mod read_items;
+mod read_value;
+#[cfg(test)]
+mod tests;
+
+pub use known::{Known, is_holder, kind_of_row};
+pub use read::read_op;
+pub use wire_model::{Op, OpFault, OpKey, OpValue, RowKind, Step};

@@ -1,0 +1,235 @@
+//! Operations on collections, read from state bytes.
+ghost use Rattle.std.specs.Prelude.{◌≡◌, ◌+◌, ◌<◌, ◌≤◌, ◌&&◌, [], length, IsTrue};
+ghost use Rattle.state_model.specs.Places.{item_wants, holds_instances};
+ghost use Rattle.wire_model.specs.Grammar.{collection_step, count_at, item_step, keyed_value, named_value, by_ref_value, is_item_code, is_map, is_array_row};
+ghost use Rattle.schema_model.specs.Reading.{◌>>=◌ as ◌then◌};
+ghost use Rattle.wire_model.specs.declared.op.OpKey.TheVariants.{Named};
+ghost use Rattle.op_reader.specs.Known.{Reads};
+ghost use Rattle.op_reader.specs.Puts.{code_of};
+ghost use Rattle.op_reader.specs.Homes.{home_row, item_after, refs_step};
+
+use crate::known::Known;
+use crate::put::Put;
+use crate::read::read_put;
+use crate::read_value::{read_count, read_value};
+use lists::{Memory, Text};
+use scalar_codec::get_text;
+use schema_model::{Home, Item, RefNum, Schema, Shape};
+use state_model::{Wanted, item_wants};
+use std::alloc::Global;
+use wire_model::{Op, OpFault, OpKey, Step};
+
+// Their bytes.
+const CLEAR: u8 = 10;
+
+const DELETE_BY_REF: u8 = 33;
+
+const ADD_BY_REF: u8 = 129;
+
+/// An operation on a collection of a home, whose byte stands at a place.
+#[tactic(auto, unfolding(wire_model::specs::Grammar::collection_step))]
+pub fn read_item_op<K: Known>(
+    alloc: Global,
+    schema: &Schema,
+    known: &K,
+    home: &Home,
+    bytes: &[u8],
+    at: usize,
+    code: u8,
+) -> Result<(Step, usize), OpFault>
+    requires { at < length bytes.now }
+    ensures { Reads result (collection_step schema.now (K.rows known.now) (home_row schema.now home.now) home.now bytes.now at code) }
+{
+    match code {
+        CLEAR => Ok((Step::Do(Op::Clear), at + 1)),
+        15 | 32 | 96 | 160 => Err(OpFault::Unsupported(at, code)),
+        0 | 64 | 128 | 192 => read_numbered(alloc, schema, known, home, bytes, at, code),
+        DELETE_BY_REF => read_delete_by_ref(schema, home, bytes, at),
+        ADD_BY_REF => read_add_by_ref(alloc, schema, known, home, bytes, at),
+        _ => Err(OpFault::UnknownOp(at, code)),
+    }
+}
+
+// An operation with an item number or a position.
+fn read_numbered<K: Known>(
+    alloc: Global,
+    schema: &Schema,
+    known: &K,
+    home: &Home,
+    bytes: &[u8],
+    at: usize,
+    code: u8,
+) -> Result<(Step, usize), OpFault>
+    requires place { at < length bytes.now }
+    requires code { IsTrue (is_item_code code) }
+    ensures { Reads result (count_at bytes.now (at + 1)
+        then item_step schema.now (K.rows known.now) (home_row schema.now home.now) bytes.now at code (item_wants schema.now home.now)) }
+{
+    let (number, next) = read_count(bytes, at + 1)?;
+    match item_wants(schema, *home) {
+        Some(wanted) => {
+            let named = is_map(schema, home);
+            read_item(
+                alloc, schema, known, bytes, next, code, named, number, wanted,
+            )
+        }
+        None => Err(OpFault::UnknownOp(at, code)),
+    }
+}
+
+// The same from behind the number on; new items of a map are named.
+fn read_item<K: Known>(
+    alloc: Global,
+    schema: &Schema,
+    known: &K,
+    bytes: &[u8],
+    at: usize,
+    code: u8,
+    named: bool,
+    number: u32,
+    wanted: Wanted,
+) -> Result<(Step, usize), OpFault>
+    requires place { at ≤ length bytes.now }
+    requires code { IsTrue (is_item_code code) }
+    ensures { Reads result (item_after schema.now (K.rows known.now) named bytes.now code wanted (number, at)) }
+{
+    match Put::of(code) {
+        Some(put) => {
+            if named && put.adds() {
+                read_named(alloc, schema, known, bytes, at, put, number, wanted)
+            } else {
+                read_put(
+                    alloc,
+                    schema,
+                    known,
+                    bytes,
+                    at,
+                    put,
+                    OpKey::Item(number),
+                    wanted,
+                )
+            }
+        }
+        None => Ok((Step::Do(Op::Delete(OpKey::Item(number))), at)),
+    }
+}
+
+// A new item of a map, from its key on.
+#[tactic(auto, unfolding(wire_model::specs::Grammar::named_value), using(crate::proofs::Within::text_ends))]
+fn read_named<K: Known>(
+    alloc: Global,
+    schema: &Schema,
+    known: &K,
+    bytes: &[u8],
+    at: usize,
+    put: Put,
+    number: u32,
+    wanted: Wanted,
+) -> Result<(Step, usize), OpFault>
+    requires { at ≤ length bytes.now }
+    ensures { Reads result (named_value schema.now (K.rows known.now) bytes.now at (code_of put) number wanted) }
+{
+    match get_text(bytes, at) {
+        Ok((key, next)) => read_keyed(alloc, schema, known, bytes, next, put, number, key, wanted),
+        Err(fault) => Err(OpFault::Scalar(fault)),
+    }
+}
+
+// A new item of a map, from its value on.
+#[tactic(auto, unfolding(wire_model::specs::Grammar::keyed_value))]
+fn read_keyed<K: Known>(
+    alloc: Global,
+    schema: &Schema,
+    known: &K,
+    bytes: &[u8],
+    at: usize,
+    put: Put,
+    number: u32,
+    key: &str,
+    wanted: Wanted,
+) -> Result<(Step, usize), OpFault>
+    requires { at ≤ length bytes.now }
+    ensures { Reads result (keyed_value schema.now (K.rows known.now) bytes.now at (code_of put) (Named number key.now) wanted) }
+{
+    let (value, end) = read_value(alloc, schema, known, put.adds(), bytes, at, wanted)?;
+    match Text::from_text(alloc, key) {
+        Ok(key) => Ok((Step::Do(put.op(OpKey::Named(number, key), value)), end)),
+        Err(Memory) => Err(OpFault::Memory),
+    }
+}
+
+// An instance taken out of an array by its number.
+fn read_delete_by_ref(
+    schema: &Schema,
+    home: &Home,
+    bytes: &[u8],
+    at: usize,
+) -> Result<(Step, usize), OpFault>
+    requires { at < length bytes.now }
+    ensures { result ≡ refs_step schema.now [] (home_row schema.now home.now) home.now bytes.now at 33 }
+{
+    if !holds_refs(schema, home) {
+        return Err(OpFault::UnknownOp(at, DELETE_BY_REF));
+    }
+    let (who, next) = read_count(bytes, at + 1)?;
+    Ok((Step::Do(Op::DeleteByRef(RefNum(who))), next))
+}
+
+// An instance put into an array by its number, which stands before the value too.
+fn read_add_by_ref<K: Known>(
+    alloc: Global,
+    schema: &Schema,
+    known: &K,
+    home: &Home,
+    bytes: &[u8],
+    at: usize,
+) -> Result<(Step, usize), OpFault>
+    requires { at < length bytes.now }
+    ensures { Reads result (refs_step schema.now (K.rows known.now) (home_row schema.now home.now) home.now bytes.now at 129) }
+{
+    if !holds_refs(schema, home) {
+        return Err(OpFault::UnknownOp(at, ADD_BY_REF));
+    }
+    let (_, next) = read_count(bytes, at + 1)?;
+    match item_wants(schema, *home) {
+        Some(wanted) => read_pushed(alloc, schema, known, bytes, next, wanted),
+        None => Err(OpFault::UnknownOp(at, ADD_BY_REF)),
+    }
+}
+
+// An instance put into an array, from its value on.
+#[tactic(auto, unfolding(wire_model::specs::Grammar::by_ref_value))]
+fn read_pushed<K: Known>(
+    alloc: Global,
+    schema: &Schema,
+    known: &K,
+    bytes: &[u8],
+    at: usize,
+    wanted: Wanted,
+) -> Result<(Step, usize), OpFault>
+    requires { at ≤ length bytes.now }
+    ensures { Reads result (by_ref_value schema.now (K.rows known.now) bytes.now at wanted) }
+{
+    let (value, end) = read_value(alloc, schema, known, true, bytes, at, wanted)?;
+    Ok((Step::Do(Op::AddByRef(value)), end))
+}
+
+// The collections of a home are maps.
+fn is_map(schema: &Schema, home: &Home) -> bool
+    ensures { result ≡ is_map (home_row schema.now home.now) }
+{
+    match schema.home_field(*home) {
+        Some(field) => matches!(field.shape, Shape::Map(_)),
+        None => false,
+    }
+}
+
+// The collections of a home are arrays of instances.
+fn holds_refs(schema: &Schema, home: &Home) -> bool
+    ensures { result ≡ (is_array_row (home_row schema.now home.now) && holds_instances schema.now home.now) }
+{
+    match schema.home_field(*home) {
+        Some(field) => matches!(field.shape, Shape::Array(Item::Class(_))),
+        None => false,
+    }
+}
