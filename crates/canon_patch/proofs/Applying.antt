@@ -45,12 +45,12 @@ use Rattle.canon_patch.specs.Applying.{meant, with_link, with_links}
 -- ---- the kinds of rows
 
 -- the kinds of rows rise as they do
-kinds_rise : (low : ℕ) (rows : List RowEntry) → RisesFrom number_of low rows → RisesFrom number_of low (kinds_of rows)
+pub kinds_rise : (low : ℕ) (rows : List RowEntry) → RisesFrom number_of low rows → RisesFrom number_of low (kinds_of rows)
 kinds_rise low [] r = tt
 kinds_rise low (e ∷ es) r = (r.0, kinds_rise (suc e.who) es r.1)
 
 -- a row that is put in is known by its kind
-kinds_of-put_row : (n : ℕ) (r : Row) (rows : List RowEntry) → kinds_of (put_row n r rows) ≡ put_row n (emptied r) (kinds_of rows)
+pub kinds_of-put_row : (n : ℕ) (r : Row) (rows : List RowEntry) → kinds_of (put_row n r rows) ≡ put_row n (emptied r) (kinds_of rows)
 kinds_of-put_row n r [] = refl
 kinds_of-put_row n r (e ∷ es) = grind (arith, nat_tests, kinds_of-put_row n r es)
 
@@ -66,11 +66,11 @@ entry_at rows n r h =
     ] in go (find number_of n rows) refl h
 
 -- a row put in where it was changes nothing
-put_same : (rows : List RowEntry) (n : ℕ) (r : Row) → RisesFrom number_of 0 rows → row_at rows n ≡ Some r → put_row n r rows ≡ rows
+pub put_same : (rows : List RowEntry) (n : ℕ) (r : Row) → RisesFrom number_of 0 rows → row_at rows n ≡ Some r → put_row n r rows ≡ rows
 put_same rows n r rises h = put_found number_of 0 (record { who = n; row = r }) rows rises (entry_at rows n r h)
 
 -- a row of the same kind, put in where one is, changes no kind
-put_kind : (rows : List RowEntry) (n : ℕ) (a b : Row) → RisesFrom number_of 0 rows → row_at rows n ≡ Some a → emptied b ≡ emptied a → kinds_of (put_row n b rows) ≡ kinds_of rows
+pub put_kind : (rows : List RowEntry) (n : ℕ) (a b : Row) → RisesFrom number_of 0 rows → row_at rows n ≡ Some a → emptied b ≡ emptied a → kinds_of (put_row n b rows) ≡ kinds_of rows
 put_kind rows n a b rises h same =
     kinds_of-put_row n b rows
     ∙ (ap (λ r. put_row n r (kinds_of rows)) same
@@ -155,7 +155,7 @@ pub coll_linked : (schema : Schema) (rows : List RowEntry) (wanted : Option Want
 coll_linked schema rows wanted v n fresh is made = rw (is, made) (linked_fresh rows n (new_collection schema wanted))
 
 -- after an operation the known kinds are those of the rows with its link
-link_known : (schema : Schema) (holder : Row) (o : Op) (rows : List RowEntry) → RisesFrom number_of 0 rows →
+pub link_known : (schema : Schema) (holder : Row) (o : Op) (rows : List RowEntry) → RisesFrom number_of 0 rows →
     kinds_of (with_link schema holder o rows) ≡ known_after (resolved schema (kinds_of rows) holder o) (kinds_of rows)
 link_known schema holder (op.Add k v) rows rises = value_known schema (wants_at schema holder k) v rows rises ∙ sym (after_carried (resolved schema (kinds_of rows) holder (op.Add k v)) (kinds_of rows))
 link_known schema holder (op.Replace k v) rows rises = value_known schema (wants_at schema holder k) v rows rises ∙ sym (after_carried (resolved schema (kinds_of rows) holder (op.Replace k v)) (kinds_of rows))
@@ -166,7 +166,7 @@ link_known schema holder op.Clear rows rises = refl
 link_known schema holder (op.DeleteByRef n) rows rises = refl
 
 -- the rows with a link rise
-link_rises : (schema : Schema) (holder : Row) (o : Op) (rows : List RowEntry) → RisesFrom number_of 0 rows → RisesFrom number_of 0 (with_link schema holder o rows)
+pub link_rises : (schema : Schema) (holder : Row) (o : Op) (rows : List RowEntry) → RisesFrom number_of 0 rows → RisesFrom number_of 0 (with_link schema holder o rows)
 link_rises schema holder o rows rises =
     let go : (c : Option Carried) → RisesFrom number_of 0 (option_map_or (λ v. with_linked v rows) c rows) = elim [ Some v ↦ linked_rises v rows rises | None ↦ rises ] in
     go (carried_by (resolved schema (kinds_of rows) holder o))

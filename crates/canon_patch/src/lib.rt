@@ -6,7 +6,7 @@ mod array;
 pub mod blocks;
 mod by_ref;
 mod fields;
-mod linked;
+pub mod linked;
 mod map;
 mod marks;
 mod names;

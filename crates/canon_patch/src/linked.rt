@@ -42,8 +42,8 @@ pub fn add_linked(
     Ok(())
 }
 
-// Adds the row that an operation links to.
-fn add_link(
+/// Adds the row that an operation links to.
+pub fn add_link(
     alloc: Global,
     schema: &Schema,
     rows: &mut Tree<RowEntry>,

@@ -5,7 +5,7 @@ use Rattle.state_model.specs.declared.row.RowEntry.{RowEntry}
 use Rattle.wire_model.specs.declared.op.Block.{Block}
 use Rattle.wire_model.specs.Frame.{patch, state_frame, has_operation}
 use Rattle.wire_model.specs.OpBytes.{block_bytes}
-use Rattle.wire_ops.specs.Writable.{are_writable}
+use Rattle.block_laws.specs.Writable.{are_writable}
 use Rattle.wire_ops.proofs.NumbersWritable.{number_blocks_writable}
 use Rattle.plain_rows.specs.Numbers.{is_number_schema, number_count, AreNumberRows}
 use Rattle.number_laws.specs.NumberPatch.{number_ops, root_block}

@@ -3,7 +3,7 @@ ghost use Rattle.frame_model.specs.Frames.{server_bytes};
 ghost use Rattle.frame_model.specs.declared.frame.ServerFrame.TheVariants as server;
 ghost use Rattle.wire_model.specs.Frame.{full_state, state_frame, has_operation};
 ghost use Rattle.wire_model.specs.OpBytes.{block_bytes};
-ghost use Rattle.wire_ops.specs.Writable.{are_writable};
+ghost use Rattle.block_laws.specs.Writable.{are_writable};
 ghost use Rattle.room_model.specs.Room.{join_frame as join_bytes};
 ghost use Rattle.plain_rows.specs.Numbers.{is_number_schema, AreNumberRows};
 ghost use Rattle.room_core.specs.Values.{patch_of};

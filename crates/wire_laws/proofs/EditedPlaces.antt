@@ -38,7 +38,7 @@ all_places p q k (Set home items) = list_all (λ (i : SetItem). q i.value) items
 
 module _ {E : Type 0} (key : E → ℕ) (t : E → Bool) where
   -- where the new item and the others pass, all pass
-  all-put : (x : E) (es : List E) → t x ≡ true → list_all t es ≡ true → list_all t (put key x es) ≡ true
+  pub all-put : (x : E) (es : List E) → t x ≡ true → list_all t es ≡ true → list_all t (put key x es) ≡ true
   all-put x [] h a = grind arith
   all-put x (e ∷ es) h a = grind (arith, nat_tests, all-put x es h)
 

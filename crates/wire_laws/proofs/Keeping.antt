@@ -43,7 +43,7 @@ holds_none m r = ap (is_among m) (emptied_holds r)
 -- ---- the rows that a block's operations name
 
 -- what stands under a number there: as it stood, or the goal's row without its places
-named_stands : (goal now : List RowEntry) (es : List Edit) (n : ℕ) (r : Row) → RisesFrom number_of 0 now → CarriesKinds goal es → row_at (with_named es now) n ≡ Some r
+pub named_stands : (goal now : List RowEntry) (es : List Edit) (n : ℕ) (r : Row) → RisesFrom number_of 0 now → CarriesKinds goal es → row_at (with_named es now) n ≡ Some r
     → (row_at now n ≡ Some r) ⊎ ((is_live now n ≡ false) × (is_among n (named_in es) ≡ true) × (r ≡ kind_in goal n))
 named_stands goal now es n r rises carries is =
     let go : (b c : Bool) → is_live now n ≡ b → is_among n (named_in es) ≡ c → cond b (row_at now n) (cond c (Some (kind_in goal n)) None) ≡ Some r
@@ -72,14 +72,14 @@ named_there goal now es n rises carries named =
           ∙ (ap (λ b. cond b (row_at now n) (cond (is_among n (named_in es)) (Some (kind_in goal n)) None)) gone ∙ ap (λ c. cond c (Some (kind_in goal n)) None) named))
     ] in go (is_live now n) refl
 
-emptied_twice : (r : Row) → emptied (emptied r) ≡ emptied r
+pub emptied_twice : (r : Row) → emptied (emptied r) ≡ emptied r
 emptied_twice (Struct class fields) = refl
 emptied_twice (Map home items) = refl
 emptied_twice (Array home values) = refl
 emptied_twice (Set home items) = refl
 
 -- rows in which named rows are there, without places, are kept
-named_kept : (schema : Schema) (client goal now : List RowEntry) (es : List Edit) → Kept schema client goal now → CarriesKinds goal es
+pub named_kept : (schema : Schema) (client goal now : List RowEntry) (es : List Edit) → Kept schema client goal now → CarriesKinds goal es
     → ((m : ℕ) → is_among m (named_in es) ≡ true → is_live goal m ≡ true) → Kept schema client goal (with_named es now)
 named_kept schema client goal now es k carries names = record {
   rises = named_rises es now k.rises;
@@ -175,7 +175,7 @@ carries_of schema goal b l =
       | inr h ↦ subst (CarriesKinds goal) (sym h) (whole_carries schema goal l.row)
     ]
 
-names_of : (schema : Schema) (goal : List RowEntry) (b : EditBlock) → IsGoal schema goal → LeadsTo schema goal b → (m : ℕ) → is_among m (named_in b.edits) ≡ true → is_live goal m ≡ true
+pub names_of : (schema : Schema) (goal : List RowEntry) (b : EditBlock) → IsGoal schema goal → LeadsTo schema goal b → (m : ℕ) → is_among m (named_in b.edits) ≡ true → is_live goal m ≡ true
 names_of schema goal b g l m named =
     g.links b.holder m l.row l.is_row (elim l.leads [
       | inl h ↦ named_held schema goal h.0 l.row m (ap (λ es. is_among m (named_in es)) (sym h.2) ∙ named)
@@ -204,7 +204,7 @@ origin_of schema goal b r a l kind origin =
     ]
 
 -- a block keeps rows
-block_kept : (schema : Schema) (client goal now : List RowEntry) (b : EditBlock) → IsGoal schema goal → Kept schema client goal now → LeadsTo schema goal b → Kept schema client goal (apply_block now b)
+pub block_kept : (schema : Schema) (client goal now : List RowEntry) (b : EditBlock) → IsGoal schema goal → Kept schema client goal now → LeadsTo schema goal b → Kept schema client goal (apply_block now b)
 block_kept schema client goal now b g k l =
     let go : (o : Option Row) → row_at (with_named b.edits now) b.holder ≡ o → Kept schema client goal (apply_block now b) = elim [
       | None ↦ λ is. subst (Kept schema client goal) (sym (ap (with_edits b (with_named b.edits now)) is)) named
@@ -247,7 +247,7 @@ AllLead-append : (schema : Schema) (goal : List RowEntry) (bs cs : List EditBloc
 AllLead-append schema goal [] cs b c = c
 AllLead-append schema goal (x ∷ bs) cs b c = (b.0, AllLead-append schema goal bs cs b.1 c)
 
-common_leads : (schema : Schema) (old new es : List RowEntry) → ((n : ℕ) (a b : Row) → row_at old n ≡ Some a → row_at new n ≡ Some b → same_kind a b ≡ true) → AreAmong new es
+pub common_leads : (schema : Schema) (old new es : List RowEntry) → ((n : ℕ) (a b : Row) → row_at old n ≡ Some a → row_at new n ≡ Some b → same_kind a b ≡ true) → AreAmong new es
     → AllLead schema new (blocks_for schema old new es)
 common_leads schema old new [] kinds among = tt
 common_leads schema old new (e ∷ es) kinds among =
@@ -261,7 +261,7 @@ common_leads schema old new (e ∷ es) kinds among =
     one_leads None is = tt
     one_leads (Some a) is = block_leads a (row_edits schema new a e.row) is refl
 
-whole_leads : (schema : Schema) (new : List RowEntry) (n : ℕ) (o : Option Row) → row_at new n ≡ o → AllLead schema new (block_of n (option_map_or (whole_edits schema new) o []))
+pub whole_leads : (schema : Schema) (new : List RowEntry) (n : ℕ) (o : Option Row) → row_at new n ≡ o → AllLead schema new (block_of n (option_map_or (whole_edits schema new) o []))
 whole_leads schema new n None is = tt
 whole_leads schema new n (Some b) is = block_leads (whole_edits schema new b) refl
   where

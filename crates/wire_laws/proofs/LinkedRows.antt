@@ -224,7 +224,7 @@ carried_rows kinds None rows n k = none_named kinds rows n
 carried_rows kinds (Some c) rows n k = linked_rows kinds c rows n k
 
 -- which numbers are live after one operation
-carried_lives : (o : Option Carried) (rows : List RowEntry) (n : ℕ) → is_live (with_carried o rows) n ≡ (is_live rows n || is_among n (option_map_or linked_number o []))
+pub carried_lives : (o : Option Carried) (rows : List RowEntry) (n : ℕ) → is_live (with_carried o rows) n ≡ (is_live rows n || is_among n (option_map_or linked_number o []))
 carried_lives None rows n = or-none (is_live rows n)
 carried_lives (Some c) rows n = linked_lives c rows n
 

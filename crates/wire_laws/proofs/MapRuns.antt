@@ -49,7 +49,7 @@ key_among [] n x k h e = cc
 key_among (i ∷ items) n x k h e = grind (arith, nat_tests, key_among items n x k, bytes_eq_self k)
 
 -- where keys differ, an item of one key has one number
-one_number : (items : List MapItem) (n m : ℕ) (x y : MapItem) → keys_differ (map (λ (i : MapItem). i.key) items) ≡ true
+pub one_number : (items : List MapItem) (n m : ℕ) (x y : MapItem) → keys_differ (map (λ (i : MapItem). i.key) items) ≡ true
     → find number n items ≡ Some x → find number m items ≡ Some y → x.key ≡ y.key → n ≡ m
 one_number [] n m x y d h k e = cc
 one_number (i ∷ items) n m x y d h k e =
@@ -91,7 +91,7 @@ number-revalued : (n : ℕ) (v : Value) (i : MapItem) → (revalued n v i).numbe
 number-revalued n v i = let go : (b : Bool) → (i.number == n) ≡ b → (revalued n v i).number ≡ i.number = elim [ true ↦ λ t. rw t refl | false ↦ λ t. rw t refl ] in go (i.number == n) refl
 
 -- an item is found with the new value, where it is of this number
-find-put_value : (n : ℕ) (v : Value) (items : List MapItem) (k : ℕ) → find number k (put_value n v items) ≡ option_map (revalued n v) (find number k items)
+pub find-put_value : (n : ℕ) (v : Value) (items : List MapItem) (k : ℕ) → find number k (put_value n v items) ≡ option_map (revalued n v) (find number k items)
 find-put_value n v items k = find-map number (revalued n v) (number-revalued n v) items k
 
 -- an item that gets the value of another with its number and key is that one
@@ -102,7 +102,7 @@ revalued_is u x y n m k =
     rw at (ap (λ j. let i : MapItem = record { number = j; key = x.key; value = y.value } in i) number_is ∙ ap (λ j. let i : MapItem = record { number = y.number; key = j; value = y.value } in i) k)
 
 -- what is found under another number isn't changed
-not_revalued : (u k : ℕ) (v : Value) (o : Option MapItem) → k ≢ u → ((z : MapItem) → o ≡ Some z → z.number ≡ k) → option_map (revalued u v) o ≡ o
+pub not_revalued : (u k : ℕ) (v : Value) (o : Option MapItem) → k ≢ u → ((z : MapItem) → o ≡ Some z → z.number ≡ k) → option_map (revalued u v) o ≡ o
 not_revalued u k v None d n = refl
 not_revalued u k v (Some z) d n = let at : z.number ≡ k = n z refl in let other : (z.number == u) ≡ false = grind (arith, nat_tests) in rw other refl
 
@@ -115,7 +115,7 @@ find_named u y items n =
     base ∙ grind (arith, nat_tests)
 
 -- another number is found as without the key
-find_other_named : (u : ℕ) (y : MapItem) (items : List MapItem) (k : ℕ) → k ≢ u → find number k (put_named u y.key y.value items) ≡ find number k (without_key u y.key items)
+pub find_other_named : (u : ℕ) (y : MapItem) (items : List MapItem) (k : ℕ) → k ≢ u → find number k (put_named u y.key y.value items) ≡ find number k (without_key u y.key items)
 find_other_named u y items k d = find-put number (record { number = u; key = y.key; value = y.value }) (without_key u y.key items) k ∙ grind (arith, nat_tests)
 
 module _ (old new : List MapItem) (differ : keys_differ (map (λ (i : MapItem). i.key) new) ≡ true)

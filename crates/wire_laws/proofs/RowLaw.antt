@@ -51,7 +51,7 @@ emptied_formed schema (Array home values) = λ t. (refl, refl)
 emptied_formed schema (Set home items) = tt
 
 -- a map without its items has no keys
-emptied_keys : (r : Row) → SameKeys (emptied r) r
+pub emptied_keys : (r : Row) → SameKeys (emptied r) r
 emptied_keys (Struct c fields) = tt
 emptied_keys (Map home items) = λ n x y h k. cc
 emptied_keys (Array home values) = tt

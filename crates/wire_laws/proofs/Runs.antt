@@ -12,13 +12,13 @@ use Rattle.state_laws.proofs.Numbers.{among_with, rises_with}
 -- ---- the numbers of two lists
 
 -- what stands below the first isn't there
-is_among_below : (low : ℕ) (ns : List ℕ) (k : ℕ) → RisesFrom (λ n. n) low ns → k < low → is_among k ns ≡ false
+pub is_among_below : (low : ℕ) (ns : List ℕ) (k : ℕ) → RisesFrom (λ n. n) low ns → k < low → is_among k ns ≡ false
 is_among_below low [] k r h = refl
 is_among_below low (n ∷ ns) k r h = grind (arith, nat_tests, is_among_below (suc n) ns k r.1)
 
 module _ {E : Type 0} (key : E → ℕ) where
   -- the keys of a rising list rise
-  RisesFrom-keys : (low : ℕ) (es : List E) → RisesFrom key low es → RisesFrom (λ n. n) low (map key es)
+  pub RisesFrom-keys : (low : ℕ) (es : List E) → RisesFrom key low es → RisesFrom (λ n. n) low (map key es)
   RisesFrom-keys low [] r = tt
   RisesFrom-keys low (e ∷ es) r = (r.0, RisesFrom-keys (suc (key e)) es r.1)
 

@@ -41,7 +41,7 @@ use Rattle.wire_laws.proofs.LinkedRows.{missing_row}
 -- ---- two views
 
 -- sound rows are rows of the schema
-rows_of_sound : (schema : Schema) (rows : List RowEntry) → Sound schema rows → are_rows_of schema rows ≡ true
+pub rows_of_sound : (schema : Schema) (rows : List RowEntry) → Sound schema rows → are_rows_of schema rows ≡ true
 rows_of_sound schema rows h = (and_parts _ _ h).0
 
 -- the rows of a view are of the kinds of the state's
@@ -60,7 +60,7 @@ views_kind schema rows M N n a b rises is_a is_b =
     x.2 ∙ (ap emptied (same_Some x.0 y.0 (sym x.1 ∙ y.1)) ∙ sym y.2)
 
 -- views of states that agree have rows of the same kinds
-agreeing_kind : (schema : Schema) (old new : List RowEntry) (M N : List Pair) (n : ℕ) (a b : Row) → RisesFrom number_of 0 old → RisesFrom number_of 0 new → Agree old new
+pub agreeing_kind : (schema : Schema) (old new : List RowEntry) (M N : List Pair) (n : ℕ) (a b : Row) → RisesFrom number_of 0 old → RisesFrom number_of 0 new → Agree old new
     → row_at (permitted schema old M) n ≡ Some a → row_at (permitted schema new N) n ≡ Some b → emptied a ≡ emptied b
 agreeing_kind schema old new M N n a b old_rises new_rises agree is_a is_b =
     let x = view_kind schema old M n a old_rises is_a in
@@ -105,7 +105,7 @@ views_key schema rows M N n j h g xs ys x y are is_x is_y at_x at_y =
     ap (λ (i : MapItem). i.key) (same_item x y (sym a.3 ∙ (ap (λ all. map_item all j) same ∙ b.3)))
 
 -- and so have those of views of states that agree
-agreeing_key : (schema : Schema) (old new : List RowEntry) (M N : List Pair) (n j : ℕ) (h g : Home) (xs ys : List MapItem) (x y : MapItem) → are_rows_of schema old ≡ true
+pub agreeing_key : (schema : Schema) (old new : List RowEntry) (M N : List Pair) (n j : ℕ) (h g : Home) (xs ys : List MapItem) (x y : MapItem) → are_rows_of schema old ≡ true
     → are_rows_of schema new ≡ true → Agree old new
     → row_at (permitted schema old M) n ≡ Some (Map h xs) → row_at (permitted schema new N) n ≡ Some (Map g ys) → map_item xs j ≡ Some x → map_item ys j ≡ Some y → x.key ≡ y.key
 agreeing_key schema old new M N n j h g xs ys x y old_are new_are agree is_x is_y at_x at_y =
@@ -119,7 +119,7 @@ agreeing_key schema old new M N n j h g xs ys x y old_are new_are agree is_x is_
 abbrev left_by : Schema → List RowEntry → List RowEntry → List Pair → List RowEntry
 left_by schema old new M = apply_edits (patch_edits schema (shared schema old) (shared schema new)) (permitted schema old M)
 
-is_goal : (schema : Schema) (rows : List RowEntry) → are_rows_of schema rows ≡ true → IsGoal schema rows
+pub is_goal : (schema : Schema) (rows : List RowEntry) → are_rows_of schema rows ≡ true → IsGoal schema rows
 is_goal schema rows are = record { formed = λ n b is. rows_formed schema rows n b are is; links = rows_links schema rows are }
 
 left_kept : (schema : Schema) (old new : List RowEntry) (M : List Pair) → are_rows_of schema old ≡ true → are_rows_of schema new ≡ true → Agree old new
@@ -236,7 +236,7 @@ left_holds schema old new M N now n m a old_rises new_rises k is held =
 -- ---- a frame
 
 -- what the shared part leaves can be patched to the new view
-left_patchable : (schema : Schema) (old new : List RowEntry) (M N : List Pair) → Follows schema old new → Patchable schema (left_by schema old new M) (permitted schema new N)
+pub left_patchable : (schema : Schema) (old new : List RowEntry) (M N : List Pair) → Follows schema old new → Patchable schema (left_by schema old new M) (permitted schema new N)
 left_patchable schema old new M N f =
     let old_are = rows_of_sound schema old f.old_sound in
     let new_are = rows_of_sound schema new f.new_sound in
@@ -292,7 +292,7 @@ root_sound : (schema : Schema) → nat_lt schema.root (length schema.classes) �
 root_sound schema small = rw (same_number schema.root, small) refl
 
 -- the root alone is a state, which any sound state may follow
-root_follows : (schema : Schema) (new : List RowEntry) → Sound schema new → Follows schema (root_alone schema) new
+pub root_follows : (schema : Schema) (new : List RowEntry) → Sound schema new → Follows schema (root_alone schema) new
 root_follows schema new sound =
     let root = root_row schema new sound in
     record {

@@ -31,7 +31,7 @@ use Rattle.wire_laws.proofs.KindLaws.{kind_of}
 -- ---- the operations of a block
 
 -- operations that mean again what they were do so one behind another
-ops_mean : (schema : Schema) (new : List RowEntry) (holder : Row) (es : List Edit) (known : List RowEntry) → Knows new known → CarriesKinds new es → EditsMean schema new holder es
+pub ops_mean : (schema : Schema) (new : List RowEntry) (holder : Row) (es : List Edit) (known : List RowEntry) → Knows new known → CarriesKinds new es → EditsMean schema new holder es
     → (resolved_ops schema holder known (map told es) ≡ es) × (known_behind schema holder known (map told es) ≡ known_with es known)
 ops_mean schema new holder [] known k c m = (refl, refl)
 ops_mean schema new holder (e ∷ es) known k c m =
@@ -64,7 +64,7 @@ Follows there [] = Unit {0}
 Follows there (b ∷ bs) = (there b.holder ≡ true) × Follows (λ n. there n || is_among n (named_in b.edits)) bs
 
 -- what holds of one of two holds where the first is wider
-or_wider : (a b c : Bool) → (a ≡ true → b ≡ true) → (a || c) ≡ true → (b || c) ≡ true
+pub or_wider : (a b c : Bool) → (a ≡ true → b ≡ true) → (a || c) ≡ true → (b || c) ≡ true
 or_wider a b c f h = grind (arith, nat_tests, f)
 
 -- the numbers may be more

@@ -96,7 +96,7 @@ place_means schema new holder key new_key wanted (Some u) (Some v) rows wants ne
 -- ---- the places of a row that fit
 
 -- what is found by its key passes a test that speaks of its key
-found_passes : {E : Type 0} (key : E → ℕ) (value : E → Value) (p : Value → ℕ → Bool) (es : List E) (n : ℕ) (v : Value) → list_all (λ e. p (value e) (key e)) es ≡ true
+pub found_passes : {E : Type 0} (key : E → ℕ) (value : E → Value) (p : Value → ℕ → Bool) (es : List E) (n : ℕ) (v : Value) → list_all (λ e. p (value e) (key e)) es ≡ true
     → option_map value (find key n es) ≡ Some v → p v n ≡ true
 found_passes {E} key value p es n v all is =
     let go : (o : Option E) → find key n es ≡ o → option_map value o ≡ Some v → p v n ≡ true = elim [

@@ -4,3 +4,4 @@ mod PlaceLaws
 mod SlotLaws
 pub mod EffectLaws
 pub mod NumbersWritable
+mod WrittenAgain

@@ -13,7 +13,7 @@ use Rattle.wire_model.specs.declared.op.Op.{Op}
 use Rattle.wire_model.specs.declared.op.Op.TheVariants as op
 use Rattle.wire_model.specs.declared.op.Block.{Block}
 use Rattle.wire_ops.specs.NumberBlocks.{is_field_key, is_number_value, is_number_op, is_number_block, are_number_blocks}
-use Rattle.wire_ops.specs.Writable.{is_place, is_named, is_carried, is_marked, is_unmarked, is_writable_op, is_writable, are_writable}
+use Rattle.block_laws.specs.Writable.{is_place, is_named, is_carried, is_marked, is_unmarked, is_writable_op, is_writable, are_writable}
 
 -- what holds of each by one test holds of each by a weaker one
 all_weaker : {X : Type 0} (p q : X → Bool) → ((x : X) → p x ≡ true → q x ≡ true) → (xs : List X) → list_all p xs ≡ true → list_all q xs ≡ true

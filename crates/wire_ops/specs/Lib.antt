@@ -5,4 +5,3 @@ pub mod NumberBlocks
 pub mod Places
 pub mod PlainEdits
 pub mod Slots
-pub mod Writable

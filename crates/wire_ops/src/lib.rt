@@ -1,4 +1,4 @@
-//! Operations as bytes, and what they do to a row.
+//! Operations as bytes, both ways, and what they do to a row.
 #![tactic(auto)]
 
 mod carried;
@@ -15,5 +15,6 @@ mod tests;
 pub mod write;
 
 pub use holder::Holder;
+pub use op_reader::{Known, is_holder, read_op};
 pub use wire_model::{Block, Blocks, Op, OpFault, OpKey, OpValue, Ops, RowKind, Step};
 pub use write::write_blocks;

@@ -1,6 +1,6 @@
 ghost use Rattle.std.specs.Prelude.{◌≡◌, IsTrue};
 ghost use Rattle.schema_model.specs.Fits.{fits};
-ghost use Rattle.wire_ops.specs.Writable.{is_writable_op};
+ghost use Rattle.block_laws.specs.Writable.{is_writable_op};
 
 use crate::{Block, Op, OpKey, OpValue, write_blocks};
 use schema_model::{RefNum, ScalarKind, Seq, Text, TypeNum, Value};

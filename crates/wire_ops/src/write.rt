@@ -1,8 +1,14 @@
-ghost use Rattle.std.specs.Prelude.{◌≡◌, ◌++◌, ◌≤◌, OnOk, OnErr, IsTrue, ◌∷◌};
+ghost use Rattle.std.specs.Prelude.{◌≡◌, ◌++◌, ◌≤◌, List, length, drop, OnOk, OnErr, IsTrue, ◌∷◌};
 ghost use Rattle.std.specs.List.{flat_map, list_all};
 ghost use Rattle.wire_model.specs.OpBytes.{block_bytes, first_block, whole_block, op_bytes, head_bytes, value_bytes, count_bytes, mark_bytes, link_number};
 ghost use Rattle.wire_ops.specs.Fronts.{IsFrontOf};
-ghost use Rattle.wire_ops.specs.Writable.{are_writable, is_writable, is_writable_op, is_count, is_type, is_place, is_carried, is_instance};
+ghost use Rattle.schema_model.specs.Classes.{Schema};
+ghost use Rattle.state_model.specs.declared.row.RowEntry.{RowEntry};
+ghost use Rattle.state_model.specs.Rows.{kinds_of};
+ghost use Rattle.wire_model.specs.Grammar.{read_blocks};
+ghost use Rattle.wire_model.specs.Resolved.{resolved_blocks};
+ghost use Rattle.block_laws.specs.Fitting.{BlocksFit, ReadAs, found_blocks};
+ghost use Rattle.block_laws.specs.Writable.{are_writable, is_writable, is_writable_op, is_count, is_type, is_place, is_carried, is_instance};
 
 use scalar_codec::{put_number, put_scalar, put_text};
 use schema_model::{Memory, TypeNum};
@@ -10,9 +16,13 @@ use wire_model::{Block, Blocks, Op, OpKey, OpValue};
 
 /// Appends the bytes of blocks. With `bare_root` a first block of holder 0 has no switch. An `Err` leaves
 /// `out` as it was.
+#[tactic(auto, using(crate::proofs::WrittenAgain::written_again))]
 pub fn write_blocks(out: &mut Vec<u8>, blocks: &Blocks, bare_root: bool) -> Result<(), Memory>
     requires { IsTrue (are_writable blocks.now) }
     ensures ok { OnOk result (out.new.items ≡ out.old.items ++ block_bytes blocks.now bare_root) }
+    // What was written of blocks that fit the kinds of the rows known is read as these blocks.
+    ensures again { OnOk result ((schema : Schema) (rows : List RowEntry) → BlocksFit schema (kinds_of rows) blocks.now →
+        ReadAs (read_blocks schema rows (drop (length out.old.items) out.new.items)) (found_blocks bare_root (resolved_blocks schema (kinds_of rows) blocks.now))) }
     ensures err { OnErr result (out.new.items ≡ out.old.items) }
 {
     let before = out.len();

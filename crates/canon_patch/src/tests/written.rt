@@ -2,7 +2,7 @@
 ghost use Rattle.std.specs.Prelude.{◌≡◌, not, IsTrue};
 ghost use Rattle.std.specs.Bool.{OnTrue};
 ghost use Rattle.schema_model.specs.Fits.{fits};
-ghost use Rattle.wire_ops.specs.Writable.{are_writable, is_writable, is_writable_op, is_place, is_named, is_count, is_carried, is_marked, is_unmarked, is_instance, is_type};
+ghost use Rattle.block_laws.specs.Writable.{are_writable, is_writable, is_writable_op, is_place, is_named, is_count, is_carried, is_marked, is_unmarked, is_instance, is_type};
 
 use schema_model::{ScalarKind, TypeNum, Value};
 use std::alloc::Global;

@@ -1,6 +1,6 @@
 use Rattle.std.proofs.Common.{◌≡◌, true, take}
 use Rattle.std.specs.List.{list_all}
-use Rattle.wire_ops.specs.Writable.{is_writable_op}
+use Rattle.block_laws.specs.Writable.{is_writable_op}
 use Rattle.canon_patch.proofs.tests.written.has_bytes.Given as goal
 
 -- the operations so far have bytes

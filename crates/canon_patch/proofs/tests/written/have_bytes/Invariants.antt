@@ -1,5 +1,5 @@
 use Rattle.std.proofs.Common.{◌≡◌, true, take}
-use Rattle.wire_ops.specs.Writable.{are_writable}
+use Rattle.block_laws.specs.Writable.{are_writable}
 use Rattle.canon_patch.proofs.tests.written.have_bytes.Given as goal
 
 -- the blocks so far have bytes

@@ -1,0 +1,10 @@
+pub mod Stands
+pub mod ValuesRead
+pub mod ItemOps
+pub mod RefOps
+pub mod FieldOps
+pub mod OpsRead
+pub mod KnownHolders
+pub mod StepsTaken
+pub mod OpsTaken
+pub mod BlocksRead

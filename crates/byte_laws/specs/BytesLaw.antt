@@ -1,0 +1,45 @@
+-- The laws over bytes: what the bytes of state frames are decoded to.
+use Rattle.std.specs.Prelude.{◌≡◌, ℕ, true, List, [], ◌∷◌, Ok}
+use Rattle.schema_model.specs.Classes.{Schema, is_kept}
+use Rattle.state_model.specs.Rows.{root_alone}
+use Rattle.state_model.specs.Shown.{shared}
+use Rattle.state_model.specs.Sound.{Sound}
+use Rattle.wire_model.specs.Frame.{state_frame, full_state}
+use Rattle.wire_model.specs.Decoded.{decoded, seen}
+use Rattle.wire_laws.specs.FrameLaw.{Moment, view_at, Follows, AllFollow, last_moment}
+use Rattle.byte_laws.specs.Spelled.{are_spelled}
+
+-- the state bytes from one tick to the next
+abbrev pub bytes_between : Schema → Moment → Moment → List ℕ
+bytes_between schema old new = state_frame schema (shared schema old.rows) (view_at schema old) (shared schema new.rows) (view_at schema new)
+
+-- the state bytes of a full state
+abbrev pub bytes_whole : Schema → Moment → List ℕ
+bytes_whole schema new = full_state schema (shared schema new.rows) (view_at schema new)
+
+-- the bytes of a patch are decoded, over the old view, to exactly the new one
+abbrev pub FrameDecodes : Type 0
+FrameDecodes = (schema : Schema) (old new : Moment) → is_kept schema ≡ true → Follows schema old.rows new.rows
+    → are_spelled old.rows ≡ true → are_spelled new.rows ≡ true
+    → decoded schema (bytes_between schema old new) (view_at schema old) ≡ Ok (view_at schema new)
+
+-- the bytes of a full state are decoded, over the root alone, to exactly the view
+abbrev pub FullDecodes : Type 0
+FullDecodes = (schema : Schema) (new : Moment) → is_kept schema ≡ true → Sound schema new.rows → are_spelled new.rows ≡ true
+    → decoded schema (bytes_whole schema new) (root_alone schema) ≡ Ok (view_at schema new)
+
+-- the patches of ticks, one after another, each with its frame code
+abbrev pub patch_frames : Schema → Moment → List Moment → List (List ℕ)
+patch_frames schema first [] = []
+patch_frames schema first (m ∷ ms) = (15 ∷ bytes_between schema first m) ∷ patch_frames schema m ms
+
+-- the rows of each of these ticks have bytes
+abbrev pub AllSpelled : List Moment → Type 0
+AllSpelled [] = Unit {0}
+AllSpelled (m ∷ ms) = (are_spelled m.rows ≡ true) × AllSpelled ms
+
+-- a full state at the first tick and a patch at each tick behind it are decoded, never refused, to exactly the view at the last one
+abbrev pub JoinedDecodes : Type 0
+JoinedDecodes = (schema : Schema) (first : Moment) (ms : List Moment) → is_kept schema ≡ true → Sound schema first.rows → AllFollow schema first ms
+    → AllSpelled (first ∷ ms)
+    → seen schema ((14 ∷ bytes_whole schema first) ∷ patch_frames schema first ms) ≡ Ok (view_at schema (last_moment first ms))
