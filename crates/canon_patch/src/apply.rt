@@ -89,8 +89,8 @@ fn edited(alloc: Global, row: Row, ops: &Ops) -> Result<Row, Memory>
     holder.close(alloc)
 }
 
-// Copies of rows, as a tree.
-fn tree_of(alloc: Global, rows: &Rows) -> Result<Tree<RowEntry>, Memory>
+/// Copies of rows, as a tree.
+pub fn tree_of(alloc: Global, rows: &Rows) -> Result<Tree<RowEntry>, Memory>
     ensures rows { IfOk result (λ tree. tree ≡ rows.now) }
     ensures rises { RisesFrom number_of 0 rows.now }
 {
@@ -101,14 +101,9 @@ fn tree_of(alloc: Global, rows: &Rows) -> Result<Tree<RowEntry>, Memory>
     Ok(tree)
 }
 
-// The rows of a tree.
-fn rows_of(alloc: Global, tree: Tree<RowEntry>) -> Result<Rows, Memory>
+/// The rows of a tree.
+pub fn rows_of(alloc: Global, tree: Tree<RowEntry>) -> Result<Rows, Memory>
     ensures { IfOk result (λ rows. rows ≡ tree) }
 {
-    let mut rows = Rows::new(alloc);
-    let mut tree = tree;
-    while let Some(entry) = tree.pop_first() {
-        rows.push(entry)?;
-    }
-    Ok(rows)
+    Ok(Rows::from_rising(tree.into_rising(alloc)?))
 }

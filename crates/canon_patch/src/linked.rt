@@ -7,7 +7,7 @@ ghost use Rattle.wire_model.specs.Resolved.{holder_kind};
 ghost use Rattle.wire_model.specs.declared.op.OpKey.TheVariants.{Item};
 ghost use Rattle.canon_patch.specs.Applying.{with_link, with_links};
 
-use crate::row::emptied;
+pub use crate::row::emptied;
 use crate::wanted::{new_collection, new_instance, wanted_at};
 use lists::{Memory, Rising, Seq};
 use schema_model::{RefNum, Schema, TypeNum};

@@ -84,7 +84,7 @@ fn push_start(ops: &mut Ops, row: &Row) -> Result<(), Memory>
 }
 
 // A row without its places. It takes no memory.
-pub(crate) fn emptied(alloc: Global, row: &Row) -> Row
+pub fn emptied(alloc: Global, row: &Row) -> Row
     ensures { result ≡ emptied row.now }
 {
     match row {

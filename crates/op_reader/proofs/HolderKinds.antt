@@ -21,7 +21,7 @@ use Rattle.op_reader.specs.Known.{kind_of_row, known_kind, is_holder}
 use Rattle.op_reader.specs.Homes.{home_row, kind_step}
 
 -- the same second step behind a first
-then_same : {A B : Type 0} (r : Result A OpFault) (f g : A → Result B OpFault) → ((x : A) → f x ≡ g x) → r >>= f ≡ r >>= g
+pub then_same : {A B : Type 0} (r : Result A OpFault) (f g : A → Result B OpFault) → ((x : A) → f x ≡ g x) → r >>= f ≡ r >>= g
 then_same (Ok x) f g same = same x
 then_same (Err e) f g same = refl
 

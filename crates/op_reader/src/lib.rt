@@ -10,5 +10,5 @@ mod read_value;
 mod tests;
 
 pub use known::{Known, is_holder, kind_of_row};
-pub use read::read_op;
+pub use read::{read_op, read_op_on};
 pub use wire_model::{Op, OpFault, OpKey, OpValue, RowKind, Step};

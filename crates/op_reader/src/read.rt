@@ -1,8 +1,8 @@
 //! Operations read from state bytes, one at a time.
-ghost use Rattle.std.specs.Prelude.{◌≡◌, ◌<◌, ◌≤◌, ◌-◌, ◌%◌, length, Some, IsTrue};
+ghost use Rattle.std.specs.Prelude.{◌≡◌, ℕ, ◌<◌, ◌≤◌, ◌-◌, ◌%◌, true, length, Some, IsTrue};
 ghost use Rattle.state_model.specs.Places.{field_wants};
 ghost use Rattle.wire_model.specs.Grammar.{step_at, switch_at, field_step, keyed_value, is_item_code};
-ghost use Rattle.op_reader.specs.Known.{Reads, is_holder};
+ghost use Rattle.op_reader.specs.Known.{Reads, is_holder, known_kind};
 ghost use Rattle.op_reader.specs.Puts.{code_of};
 ghost use Rattle.op_reader.specs.Homes.{kind_step};
 
@@ -32,14 +32,31 @@ pub fn read_op<K: Known>(
     requires holder { IsTrue (is_holder schema.now (K.rows known.now) holder) }
     ensures { Reads result (step_at schema.now (K.rows known.now) holder bytes.now at) }
 {
+    match known.kind_of(holder) {
+        Some(kind) => read_op_on(alloc, schema, known, kind, bytes, at),
+        None => Err(OpFault::UnknownRef(at)),
+    }
+}
+
+/// The same on a holder that is known to be of this kind.
+#[tactic(auto, unfolding(wire_model::specs::Grammar::step_at))]
+pub fn read_op_on<K: Known>(
+    alloc: Global,
+    schema: &Schema,
+    known: &K,
+    kind: RowKind,
+    bytes: &[u8],
+    at: usize,
+) -> Result<(Step, usize), OpFault>
+    requires { at < length bytes.now }
+    ensures { (holder : ℕ) → is_holder schema.now (K.rows known.now) holder ≡ true → known_kind (K.rows known.now) holder ≡ Some kind
+        → Reads result (step_at schema.now (K.rows known.now) holder bytes.now at) }
+{
     let byte = bytes[at];
     if byte == SWITCH {
         return read_switch(known, bytes, at);
     }
-    match known.kind_of(holder) {
-        Some(kind) => read_held_op(alloc, schema, known, kind, bytes, at, byte),
-        None => Err(OpFault::UnknownRef(at)),
-    }
+    read_held_op(alloc, schema, known, kind, bytes, at, byte)
 }
 
 // An operation on a holder of this kind, whose byte stands at a place.

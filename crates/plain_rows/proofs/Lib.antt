@@ -7,3 +7,4 @@ pub mod MemberKeys
 pub mod KeptItems
 pub mod ViewTables
 pub mod Freeing
+pub mod HeldRows

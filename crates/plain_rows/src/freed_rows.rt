@@ -1,6 +1,8 @@
 //! What is left of rows where those that nothing holds are freed.
-ghost use Rattle.std.specs.Prelude.{◌≡◌, ◌&&◌, ◌==◌, ℕ, not, IfOk, if◌then◌else◌};
+ghost use Rattle.std.specs.Prelude.{◌≡◌, ◌&&◌, ◌||◌, ◌==◌, ℕ, true, not, IfOk, if◌then◌else◌};
+ghost use Rattle.std.specs.List.{list_all};
 ghost use Rattle.lists.specs.Rising.{RisesFrom, remove as without};
+ghost use Rattle.state_model.specs.declared.row.RowEntry.{RowEntry};
 ghost use Rattle.state_model.specs.Rows.{is_live, number_of, rows_of as rows_of_numbers};
 ghost use Rattle.state_model.specs.Reached.{all_held, freed as freed_rows, is_among};
 ghost use Rattle.plain_rows.specs.Counts.{counted};
@@ -68,6 +70,40 @@ fn numbers_left(alloc: Global, rows: &Rows) -> Result<NumberSet, Memory>
     Ok(left)
 }
 
+// Each row but 0 is held: then none is freed. Where it answers false this isn't known.
+fn stay(alloc: Global, rows: &Rows) -> Result<bool, Memory>
+    ensures { IfOk result (λ stay. stay ≡ true → freed_rows rows.now ≡ rows.now) }
+{
+    let mut held = all_links(alloc, rows)?;
+    held.sort_unstable();
+    Ok(are_held(rows, held.as_slice()))
+}
+
+// Each row but 0 is found among these numbers.
+fn are_held(rows: &Rows, held: &[RefNum]) -> bool
+    ensures { result ≡ true → list_all (λ (e : RowEntry). (e.who == 0) || is_among e.who held.now) rows.now ≡ true }
+{
+    for entry in rows.as_slice() {
+        if !is_held(entry.who, held) {
+            return false;
+        }
+    }
+    true
+}
+
+// The number is 0, or it is found among these.
+fn is_held(who: RefNum, held: &[RefNum]) -> bool
+    ensures { result ≡ true → (who == 0 || is_among who held.now) ≡ true }
+{
+    if who.0 == 0 {
+        return true;
+    }
+    match held.binary_search(&who) {
+        Ok(_) => true,
+        Err(_) => false,
+    }
+}
+
 /// The rows without those other than 0 that no row holds, as often as needed. Each place is looked
 /// at a few times, and a number is found in steps as the logarithm of how many there are.
 pub fn freed(alloc: Global, rows: &Rows) -> Result<Rows, Memory>
@@ -75,4 +111,14 @@ pub fn freed(alloc: Global, rows: &Rows) -> Result<Rows, Memory>
 {
     let numbers = numbers_left(alloc, rows)?;
     rows_of(alloc, &numbers, rows)
+}
+
+/// The same of rows that are handed over. Where each of them is held they are handed back as they are.
+pub fn freed_of(alloc: Global, rows: Rows) -> Result<Rows, Memory>
+    ensures { IfOk result (λ left. left ≡ freed_rows rows) }
+{
+    if stay(alloc, &rows)? {
+        return Ok(rows);
+    }
+    freed(alloc, &rows)
 }

@@ -16,7 +16,7 @@ mod tests;
 mod view_fields;
 pub mod views;
 
-pub use freed_rows::freed;
+pub use freed_rows::{freed, freed_of};
 pub use number_set::NumberSet;
 pub use reached_rows::reached;
 pub use state_model::{

@@ -74,7 +74,7 @@ freed_no_cycle rows rise none = no_cycle_fewer (freed rows) rows (freed_rises ro
 
 -- after the last round
 
-rounds_still : (k : ℕ) (rows : List RowEntry) → swept_once rows ≡ rows → times k swept_once rows ≡ rows
+pub rounds_still : (k : ℕ) (rows : List RowEntry) → swept_once rows ≡ rows → times k swept_once rows ≡ rows
 rounds_still zero rows h = refl
 rounds_still (suc k) rows h = ap (times k swept_once) h ∙ rounds_still k rows h
 

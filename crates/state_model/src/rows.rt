@@ -39,6 +39,13 @@ impl Rows {
         }
     }
 
+    /// The rows of a list of them.
+    pub fn from_rising(entries: Rising<RowEntry>) -> Rows
+        ensures { result ≡ entries }
+    {
+        Rows { entries }
+    }
+
     /// The root alone, of its class and without fields.
     pub fn root_alone(alloc: Global, schema: &Schema) -> Result<Rows, Memory>
         ensures { IfOk result (λ r. r ≡ root_alone schema.now) }

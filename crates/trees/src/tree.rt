@@ -68,8 +68,7 @@ impl<T: Keyed> Tree<T> {
         ensures { IfOk result (λ items. items ≡ self) }
     {
         let mut out = Rising::new(alloc);
-        let mut tree = self;
-        while let Some(item) = tree.pop_first() {
+        for item in self.entries.into_values() {
             out.push(item)?;
         }
         Ok(out)

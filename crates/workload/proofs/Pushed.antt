@@ -1,5 +1,5 @@
 -- Rows that are pushed one behind another stay below the next number.
-use Rattle.std.proofs.Common.{◌≡◌, ℕ, ◌+◌, List, [], ◌∷◌, ◌++◌, arith}
+use Rattle.std.proofs.Common.{◌≡◌, ◌+◌, List, [], ◌∷◌, ◌++◌, arith}
 use Rattle.std.specs.Prelude.{Result, Ok, Err, OnOk, is_ok, if◌then◌else◌}
 use Rattle.lists.specs.Rising.{IsAbove}
 use Rattle.lists.proofs.RisingLaws.{IsAbove-append, IsAbove-higher}

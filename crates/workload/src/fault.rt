@@ -1,5 +1,6 @@
 //! Why work gives no sum.
 use lists::Memory;
+use patch_decoder::OpFault;
 use state_model::TableFault;
 use thiserror::Error;
 
@@ -9,6 +10,9 @@ pub enum WorkFault {
     /// A command was refused: the size is more than a room can have.
     #[error("refused: {0}")]
     Refused(TableFault),
+    /// State bytes were refused.
+    #[error("not decoded: {0}")]
+    Undecoded(OpFault),
     #[error("out of memory")]
     Memory,
 }
@@ -24,6 +28,15 @@ impl From<TableFault> for WorkFault {
         match fault {
             TableFault::Memory => WorkFault::Memory,
             _ => WorkFault::Refused(fault),
+        }
+    }
+}
+
+impl From<OpFault> for WorkFault {
+    fn from(fault: OpFault) -> Self {
+        match fault {
+            OpFault::Memory => WorkFault::Memory,
+            _ => WorkFault::Undecoded(fault),
         }
     }
 }

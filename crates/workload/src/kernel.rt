@@ -2,6 +2,7 @@
 ghost use Rattle.std.specs.Prelude.{◌≤◌, ◌^◌};
 
 use crate::commands::CommandKernel;
+use crate::decoding::FrameKernel;
 use crate::fault::WorkFault;
 use crate::row_kernel::RowKernel;
 use std::alloc::Global;
@@ -11,26 +12,31 @@ use std::alloc::Global;
 pub enum Kernel {
     Rows(RowKernel),
     Commands(CommandKernel),
+    Frames(FrameKernel),
 }
 
 impl Kernel {
     /// The kernel of this name.
     pub fn named(name: &str) -> Option<Kernel> {
-        match RowKernel::named(name) {
-            Some(kernel) => Some(Kernel::Rows(kernel)),
-            None => Some(Kernel::Commands(CommandKernel::named(name)?)),
+        if let Some(kernel) = RowKernel::named(name) {
+            return Some(Kernel::Rows(kernel));
         }
+        if let Some(kernel) = CommandKernel::named(name) {
+            return Some(Kernel::Commands(kernel));
+        }
+        Some(Kernel::Frames(FrameKernel::named(name)?))
     }
 }
 
 /// Does the kernel's work of a size, and sums up what it gave. The size is one of rows, where a player has two; of
-/// classes; or of what the commands put in and take out.
+/// classes; of what the commands put in and take out; or of players or changes in frames.
 pub fn work(alloc: Global, kernel: Kernel, size: u32) -> Result<u64, WorkFault>
     requires { size ≤ 2 ^ 24 }
 {
     match kernel {
         Kernel::Rows(kernel) => Ok(kernel.work(alloc, size)?),
         Kernel::Commands(kernel) => kernel.work(alloc, size),
+        Kernel::Frames(kernel) => kernel.work(alloc, size),
     }
 }
 

@@ -6,7 +6,9 @@ ghost use Rattle.std.specs.Prelude.{◌≤◌, ◌^◌, IfOk, IfSome};
 
 mod classes;
 mod commands;
+mod decoding;
 mod fault;
+mod frames;
 mod kernel;
 mod room;
 mod row_kernel;
@@ -66,7 +68,7 @@ fn main(rt: HostRuntime) -> ExitCode {
             Ok(()) => ExitCode::SUCCESS,
             Err(_) => ExitCode::from(5),
         },
-        Err(WorkFault::Refused(_)) => ExitCode::from(3),
+        Err(WorkFault::Refused(_) | WorkFault::Undecoded(_)) => ExitCode::from(3),
         Err(WorkFault::Memory) => ExitCode::from(7),
     }
 }

@@ -20,6 +20,8 @@ fn sums_up_what_small_sizes_give(rt: HostRuntime) -> Result<(), Fail> {
         ("chain_down", 36),
         ("held_often", 12),
         ("held_swept", 12),
+        ("decode_full", 415),
+        ("decode_patch", 1999999983988),
     ];
     for (name, sum) in sums {
         let Some(kernel) = Kernel::named(name) else {

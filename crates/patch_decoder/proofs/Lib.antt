@@ -1,0 +1,9 @@
+pub mod KindsRead
+pub mod ReadOn
+pub mod DeclaredFields
+pub mod LinkKinds
+pub mod Running
+pub mod RowsPut
+pub mod Standing
+pub mod Going
+pub mod StepFaults

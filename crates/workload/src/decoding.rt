@@ -1,0 +1,59 @@
+//! The kernels over state bytes.
+use crate::fault::WorkFault;
+use crate::frames::{full_state, patch};
+use crate::schema::players_schema;
+use crate::sums::{sum_of_fields, sum_of_rows};
+use patch_decoder::Decoder;
+use std::alloc::Global;
+
+// How many patches are decoded, one after another, and over how many players.
+const PATCHES: u32 = 50;
+
+const PLAYERS: u32 = 10_000;
+
+/// What is measured over state bytes.
+#[derive(Clone, Copy, Debug, PartialEq, Eq)]
+pub enum FrameKernel {
+    Full,
+    Patch,
+}
+
+impl FrameKernel {
+    /// The kernel of this name.
+    pub fn named(name: &str) -> Option<FrameKernel> {
+        match name {
+            "decode_full" => Some(FrameKernel::Full),
+            "decode_patch" => Some(FrameKernel::Patch),
+            _ => None,
+        }
+    }
+
+    /// Does its work over so many players, or over patches of so many changes, and sums up what it gave.
+    pub fn work(self, alloc: Global, size: u32) -> Result<u64, WorkFault> {
+        match self {
+            FrameKernel::Full => decode_full(alloc, size),
+            FrameKernel::Patch => decode_patches(alloc, size),
+        }
+    }
+}
+
+// A decoder of the game's states.
+fn decoder(alloc: Global) -> Result<Decoder, WorkFault> {
+    let schema = players_schema(alloc)?;
+    Ok(Decoder::new(alloc, schema)?)
+}
+
+fn decode_full(alloc: Global, players: u32) -> Result<u64, WorkFault> {
+    let mut decoder = decoder(alloc)?;
+    decoder.full(&full_state(alloc, players)?)?;
+    Ok(sum_of_rows(&decoder.rows()?))
+}
+
+fn decode_patches(alloc: Global, changes: u32) -> Result<u64, WorkFault> {
+    let mut decoder = decoder(alloc)?;
+    decoder.full(&full_state(alloc, PLAYERS)?)?;
+    for number in 0..PATCHES {
+        decoder.patch(&patch(alloc, changes, number)?)?;
+    }
+    Ok(sum_of_fields(&decoder.rows()?))
+}
