@@ -2,6 +2,7 @@
 use Rattle.std.specs.Prelude.{ℕ, ◌^◌, Bool, true, false, not, ◌&&◌, List, length, Option, Some, None, nat_lt, is_some}
 use Rattle.std.specs.List.{list_all}
 use Rattle.schema_model.specs.Fits.{fits}
+pub use Rattle.state_model.specs.Spelled.{is_count}
 use Rattle.wire_model.specs.declared.op.OpKey.{OpKey}
 use Rattle.wire_model.specs.declared.op.OpKey.TheVariants as key
 use Rattle.wire_model.specs.declared.op.OpValue.{OpValue}
@@ -9,10 +10,6 @@ use Rattle.wire_model.specs.declared.op.OpValue.TheVariants as carried
 use Rattle.wire_model.specs.declared.op.Op.{Op}
 use Rattle.wire_model.specs.declared.op.Op.TheVariants as op
 use Rattle.wire_model.specs.declared.op.Block.{Block}
-
--- a reference, type, item or position number is at most 2147483647
-abbrev pub is_count : ℕ → Bool
-is_count n = nat_lt n (2 ^ 31)
 
 -- a type number, where there is one
 abbrev pub is_type : Option ℕ → Bool

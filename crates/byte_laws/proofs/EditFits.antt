@@ -22,7 +22,7 @@ use Rattle.wire_model.specs.Grammar.{wants_at}
 use Rattle.wire_model.specs.Patch.{carried, changed_place, place_edit, gone_of, stands_in, drop_edit, push_edit}
 use Rattle.block_laws.specs.Writable.{is_place, is_count}
 use Rattle.block_laws.specs.Fitting.{key_fits, holds_refs}
-use Rattle.byte_laws.specs.Spelled.{is_spelled_value}
+use Rattle.state_model.specs.Spelled.{is_spelled_value}
 use Rattle.byte_laws.proofs.SpelledRows.{is_counted}
 
 -- what is carried is a value that fits its place and has bytes

@@ -11,10 +11,11 @@ use Rattle.wire_laws.proofs.ToldBlocks.{follows_patch}
 use Rattle.block_laws.specs.Writable.{are_writable}
 use Rattle.block_laws.specs.Fitting.{BlocksFit}
 use Rattle.byte_laws.proofs.FrameEdits.{frame_edits}
-use Rattle.byte_laws.specs.Spelled.{are_spelled}
+use Rattle.state_model.specs.Spelled.{are_spelled}
 use Rattle.byte_laws.proofs.PatchBlocks.{blocks_writable}
 use Rattle.byte_laws.proofs.KnownBlocks.{front_fits, front_means}
-use Rattle.byte_laws.proofs.FrameParts.{shared_blocks, view_blocks, known_between, parts_of}
+use Rattle.byte_laws.specs.BytesLaw.{shared_blocks, view_blocks}
+use Rattle.byte_laws.proofs.FrameParts.{known_between, parts_of}
 
 -- they have bytes
 pub frame_writable : (schema : Schema) (old new : Moment) → is_kept schema ≡ true → Follows schema old.rows new.rows → are_spelled old.rows ≡ true → are_spelled new.rows ≡ true

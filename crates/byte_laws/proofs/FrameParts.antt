@@ -14,9 +14,7 @@ use Rattle.state_laws.proofs.Numbers.{at_live, live_at}
 use Rattle.state_laws.proofs.PermittedLaws.{permitted_rises}
 use Rattle.state_laws.proofs.RowsOf.{rows_rise, permitted_rows_of}
 use Rattle.state_laws.proofs.SharedWithin.{shared_within}
-use Rattle.wire_model.specs.Edits.{EditBlock}
 use Rattle.wire_model.specs.Effect.{apply_edits}
-use Rattle.wire_model.specs.Frame.{shared_part, view_part}
 use Rattle.wire_model.specs.Patch.{kind_in}
 use Rattle.wire_laws.specs.PatchLaw.{Patchable}
 use Rattle.wire_laws.specs.FrameLaw.{Moment, view_at, Follows}
@@ -24,20 +22,13 @@ use Rattle.wire_laws.proofs.KindLaws.{kind_emptied, kind_of}
 use Rattle.wire_laws.proofs.StateFrames.{rows_of_sound, agreeing_kind, left_patchable}
 use Rattle.wire_laws.proofs.ToldValues.{Knows}
 use Rattle.wire_laws.proofs.ToldKnown.{knows_first, is_live-kinds_of}
-use Rattle.byte_laws.specs.Spelled.{are_spelled}
+use Rattle.state_model.specs.Spelled.{are_spelled}
+use Rattle.byte_laws.specs.BytesLaw.{shared_blocks, view_blocks}
 use Rattle.byte_laws.proofs.SpelledRows.{EachSpelled, each_spelled, has_counts}
 use Rattle.byte_laws.proofs.PatchBlocks.{BlockFits, patch_fits}
 use Rattle.byte_laws.proofs.KnownBlocks.{known_past, left_lives, knows_past}
 use Rattle.byte_laws.proofs.SpelledViews.{view_spelled, spelled_counts, shared_array}
 use Rattle.byte_laws.proofs.LeftCounts.{Counted, patch_counted}
-
--- the shared part from one tick to the next
-abbrev pub shared_blocks : Schema → Moment → Moment → List EditBlock
-shared_blocks schema old new = shared_part schema (shared schema old.rows) (shared schema new.rows)
-
--- the view part
-abbrev pub view_blocks : Schema → Moment → Moment → List EditBlock
-view_blocks schema old new = view_part schema (shared schema old.rows) (view_at schema old) (shared schema new.rows) (view_at schema new)
 
 -- the rows known behind the shared part
 abbrev pub known_between : Schema → Moment → Moment → List RowEntry

@@ -12,6 +12,8 @@ pub mod LeftCounts
 pub mod FrameParts
 pub mod FrameEdits
 pub mod FrameFits
+pub mod PartsBytes
+pub mod BlankFrames
 pub mod Found
 pub mod SlotsFound
 pub mod NumbersFound

@@ -31,7 +31,7 @@ use Rattle.wire_laws.proofs.ToldValues.{Knows}
 use Rattle.wire_laws.proofs.ToldKnown.{knows_after}
 use Rattle.wire_laws.proofs.ToldEdits.{EditsMean}
 use Rattle.block_laws.specs.Fitting.{marks_fit, ValueFits, PlaceFits, OpFits, OpsFit}
-use Rattle.byte_laws.specs.Spelled.{is_spelled_value}
+use Rattle.state_model.specs.Spelled.{is_spelled_value}
 use Rattle.byte_laws.proofs.EditFits.{Puts, EditFits}
 
 -- ---- links

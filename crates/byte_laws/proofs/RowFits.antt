@@ -30,7 +30,7 @@ use Rattle.wire_laws.proofs.NamedNumbers.{emptied_kind}
 use Rattle.wire_laws.proofs.EditedPlaces.{all-slice_get}
 use Rattle.wire_laws.proofs.ToldEdits.{found_passes}
 use Rattle.block_laws.specs.Writable.{is_place, is_count}
-use Rattle.byte_laws.specs.Spelled.{is_spelled_key, is_spelled_value, is_spelled_row}
+use Rattle.state_model.specs.Spelled.{is_spelled_key, is_spelled_value, is_spelled_row}
 use Rattle.byte_laws.proofs.SpelledRows.{is_counted, has_counts, wants_small, fits_some, items_wanted}
 use Rattle.byte_laws.proofs.EditFits.{EditFits, Each-append, place_fits, refs_fit}
 

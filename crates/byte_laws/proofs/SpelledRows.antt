@@ -25,7 +25,7 @@ use Rattle.state_model.specs.Places.{wanted_of, field_wants, item_wants, is_filt
 use Rattle.state_model.specs.Sound.{fits_place, has_kind}
 use Rattle.state_laws.proofs.Numbers.{entry, row_found}
 use Rattle.state_laws.proofs.Tests.{all-found}
-use Rattle.byte_laws.specs.Spelled.{is_spelled_row, are_spelled}
+use Rattle.state_model.specs.Spelled.{is_spelled_row, are_spelled}
 use Rattle.block_laws.specs.Writable.{is_count}
 
 -- ---- rows

@@ -28,7 +28,7 @@ use Rattle.state_laws.proofs.Passing.{length-filter_most}
 use Rattle.state_laws.proofs.Tests.{list_all_filtered, list_all_wider}
 use Rattle.state_laws.proofs.PermittedLaws.{permitted_from}
 use Rattle.state_laws.proofs.SharedWithin.{shared_within}
-use Rattle.byte_laws.specs.Spelled.{is_spelled_key, is_spelled_value, is_spelled_row}
+use Rattle.state_model.specs.Spelled.{is_spelled_key, is_spelled_value, is_spelled_row}
 use Rattle.block_laws.specs.Writable.{is_count}
 use Rattle.byte_laws.proofs.SpelledRows.{EachSpelled, is_counted, is_short, has_numbers, has_counts}
 use Rattle.byte_laws.proofs.ShortArrays.{by_position, SameArray}

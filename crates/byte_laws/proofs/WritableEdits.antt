@@ -33,7 +33,7 @@ use Rattle.wire_model.specs.Patch.{kind_wanted, carried}
 use Rattle.wire_laws.proofs.KindLaws.{kind_of}
 use Rattle.block_laws.specs.Writable.{is_count, is_place, is_named, is_carried, is_marked, is_unmarked, is_instance, is_writable_op}
 use Rattle.block_laws.specs.Fitting.{key_fits, holds_refs}
-use Rattle.byte_laws.specs.Spelled.{is_spelled_value}
+use Rattle.state_model.specs.Spelled.{is_spelled_value}
 use Rattle.byte_laws.proofs.SpelledRows.{kept_limits}
 use Rattle.byte_laws.proofs.EditFits.{Puts, EditFits}
 

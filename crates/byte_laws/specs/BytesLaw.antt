@@ -1,13 +1,18 @@
 -- The laws over bytes: what the bytes of state frames are decoded to.
-use Rattle.std.specs.Prelude.{◌≡◌, ℕ, true, List, [], ◌∷◌, Ok}
+use Rattle.std.specs.Prelude.{◌≡◌, ℕ, ◌==◌, true, not, List, [], ◌∷◌, length, Ok}
 use Rattle.schema_model.specs.Classes.{Schema, is_kept}
+use Rattle.state_model.specs.declared.row.RowEntry.{RowEntry}
 use Rattle.state_model.specs.Rows.{root_alone}
 use Rattle.state_model.specs.Shown.{shared}
 use Rattle.state_model.specs.Sound.{Sound}
-use Rattle.wire_model.specs.Frame.{state_frame, full_state}
+use Rattle.block_laws.specs.Writable.{are_writable}
+use Rattle.wire_model.specs.Edits.{EditBlock, told_blocks}
+use Rattle.wire_model.specs.Effect.{apply_edits}
+use Rattle.wire_model.specs.Frame.{state_frame, full_state, shared_part, view_part, has_operation}
+use Rattle.wire_model.specs.Resolved.{applied}
 use Rattle.wire_model.specs.Decoded.{decoded, seen}
 use Rattle.wire_laws.specs.FrameLaw.{Moment, view_at, Follows, AllFollow, last_moment}
-use Rattle.byte_laws.specs.Spelled.{are_spelled}
+use Rattle.state_model.specs.Spelled.{are_spelled}
 
 -- the state bytes from one tick to the next
 abbrev pub bytes_between : Schema → Moment → Moment → List ℕ
@@ -43,3 +48,26 @@ abbrev pub JoinedDecodes : Type 0
 JoinedDecodes = (schema : Schema) (first : Moment) (ms : List Moment) → is_kept schema ≡ true → Sound schema first.rows → AllFollow schema first ms
     → AllSpelled (first ∷ ms)
     → seen schema ((14 ∷ bytes_whole schema first) ∷ patch_frames schema first ms) ≡ Ok (view_at schema (last_moment first ms))
+
+-- the two parts of a frame from one tick to the next
+abbrev pub shared_blocks : Schema → Moment → Moment → List EditBlock
+shared_blocks schema old new = shared_part schema (shared schema old.rows) (shared schema new.rows)
+
+abbrev pub view_blocks : Schema → Moment → Moment → List EditBlock
+view_blocks schema old new = view_part schema (shared schema old.rows) (view_at schema old) (shared schema new.rows) (view_at schema new)
+
+-- both parts have bytes, and the shared part as it is told makes of a client's old view what its operations make of it
+pub record HaveBytes (schema : Schema) (old new : Moment) : Type 0 where
+  pub shared_written : are_writable (told_blocks (shared_blocks schema old new)) ≡ true
+  pub view_written : are_writable (told_blocks (view_blocks schema old new)) ≡ true
+  pub shared_means : applied schema (view_at schema old) (told_blocks (shared_blocks schema old new)) ≡ apply_edits (shared_blocks schema old new) (view_at schema old)
+
+-- so it is of any two ticks of which one may follow the other
+abbrev pub PartsHaveBytes : Type 0
+PartsHaveBytes = (schema : Schema) (old new : Moment) → is_kept schema ≡ true → Follows schema old.rows new.rows → are_spelled old.rows ≡ true
+    → are_spelled new.rows ≡ true → HaveBytes schema old new
+
+-- the state bytes of any tick are none exactly where the frame has no operation
+abbrev pub BytesTell : Type 0
+BytesTell = (schema : Schema) (shared0 permitted0 shared1 permitted1 : List RowEntry)
+    → (length (state_frame schema shared0 permitted0 shared1 permitted1) == 0) ≡ not (has_operation schema shared0 permitted0 shared1 permitted1)

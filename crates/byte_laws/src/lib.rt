@@ -1,7 +1,7 @@
 //! Laws of the bytes of state frames: what they are decoded to.
 #![tactic(auto)]
 
-ghost use Rattle.byte_laws.specs.BytesLaw.{FrameDecodes, FullDecodes, JoinedDecodes};
+ghost use Rattle.byte_laws.specs.BytesLaw.{BytesTell, FrameDecodes, FullDecodes, JoinedDecodes, PartsHaveBytes};
 
 /// The state bytes of a tick are decoded, never refused, over a client's old view to exactly its new one.
 pub fn frame_decodes()
@@ -16,4 +16,15 @@ pub fn full_decodes()
 /// A full state and the patches behind it are decoded, one after another, to exactly a client's view at the last tick.
 pub fn joined_decodes()
     ensures { JoinedDecodes }
+{}
+
+/// Both parts of a state frame have bytes, and the shared part as it is told makes of a client's old view what its
+/// operations make of it.
+pub fn parts_have_bytes()
+    ensures { PartsHaveBytes }
+{}
+
+/// The state bytes of a tick are none exactly where its frame has no operation.
+pub fn bytes_tell()
+    ensures { BytesTell }
 {}

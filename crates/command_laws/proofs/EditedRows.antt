@@ -110,7 +110,7 @@ values_less m vs ws from h = list_any-flat_map (λ k. k == m) held_by vs ∙ fro
 list_any_pushed : {X : Type 0} (p : X → Bool) (x : X) (xs : List X) → list_any p (xs ++ x ∷ []) ≡ true → (p x || list_any p xs) ≡ true
 list_any_pushed p x xs h = let both = list_any-append p xs (x ∷ []) in grind (arith, nat_tests)
 
-list_all_pushed : {X : Type 0} (p : X → Bool) (x : X) (xs : List X) → p x ≡ true → list_all p xs ≡ true → list_all p (xs ++ x ∷ []) ≡ true
+pub list_all_pushed : {X : Type 0} (p : X → Bool) (x : X) (xs : List X) → p x ≡ true → list_all p xs ≡ true → list_all p (xs ++ x ∷ []) ≡ true
 list_all_pushed p x xs t h = let both = list_all-append p xs (x ∷ []) in grind (arith, nat_tests)
 
 -- what the row holds it held, or it is the row of the link that the command puts

@@ -11,6 +11,7 @@ pub mod NewRows
 pub mod ChangedRows
 pub mod KeptStates
 pub mod SweptStates
+pub mod SpelledStates
 pub mod CommandLaws
 pub mod ListSums
 pub mod ItemSums

@@ -13,11 +13,13 @@ use Rattle.state_model.specs.Rows.{held_in, place_count, put_row, row_at, text_b
 use Rattle.state_model.specs.State.{State, places_limit, text_limit}
 use Rattle.state_model.specs.Commands.{adds_place, answer_of, do_command, edited, holder_of, is_no_field, made_row, makes_row, number_made, refusal_of, row_for, state_after, value_put, with_change, with_new}
 use Rattle.command_laws.specs.Accounts.{IsFit, is_clear, one_if, replaced, row_text}
+use Rattle.command_laws.specs.Worded.{is_worded_command}
 use Rattle.command_laws.proofs.Accepted.{IsAccepted, accepted}
 use Rattle.command_laws.proofs.Accounts.{accepted_fits, adds_place_is, clear_counts, edited_counts, edited_places, edited_text}
 use Rattle.command_laws.proofs.KeptStates.{command_keeps}
 use Rattle.command_laws.proofs.RowSums.{put_row_places, put_row_text}
 use Rattle.command_laws.proofs.SoundRows.{sound_rises}
+use Rattle.command_laws.proofs.SpelledStates.{command_spells}
 use Rattle.instance_table.specs.declared.node.Node.{Node}
 use Rattle.instance_table.specs.declared.body.Body.{Body}
 use Rattle.instance_table.specs.Amounts.{places_after, text_after, text_of_place}
@@ -149,9 +151,10 @@ pub record IsChanged (schema : Schema) (es fs : List (ℕ × Node)) (given place
   pub answer : do_command schema (state_in es given) c ≡ Ok (state_in fs given, None)
   pub long : length fs ≡ length es
 
-pub changed_table : (schema : Schema) (es : List (ℕ × Node)) (given places text h : ℕ) (c : Command) (b : Body) → IsTable schema es given places text → refusal_of schema (state_in es given) c ≡ None → holder_of c ≡ Some h → body_at es h ≡ Some b
+pub changed_table : (schema : Schema) (es : List (ℕ × Node)) (given places text h : ℕ) (c : Command) (b : Body)
+    → IsTable schema es given places text → is_worded_command c ≡ true → refusal_of schema (state_in es given) c ≡ None → holder_of c ≡ Some h → body_at es h ≡ Some b
     → IsChanged schema es (changed c h b es) given places text c b
-changed_table schema es given places text h c b t free names at =
+changed_table schema es given places text h c b t words free names at =
     let s = state_in es given in
     let fs = changed c h b es in
     let stands : row_at (rows_in es) h ≡ Some (row_of b) = row_by_body es h ∙ ap (option_map row_of) at in
@@ -170,15 +173,21 @@ changed_table schema es given places text h c b t free names at =
     let text_now = text_changed schema (rows_in es) c h (next_in b) (row_of b) rows_rise stands names fit in
     let placed : places_after c (row_of b) places ≡ place_count (rows_in fs) = ap (places_after c (row_of b)) t.placed ∙ (places_now ∙ ap place_count (sym rows)) in
     let texts : text_after c (row_of b) text ≡ text_bytes_of (rows_in fs) = ap (text_after c (row_of b)) t.texts ∙ (text_now ∙ ap text_bytes_of (sym rows)) in
+    let before : place_count (rows_in es) ≤ places_limit = subst (λ n. n ≤ places_limit) t.placed t.places_few in
+    let within = places_within schema (rows_in es) c (row_of b) fit taken.places_left before in
+    let few : places_after c (row_of b) places ≤ places_limit =
+    subst (λ n. places_after c (row_of b) n ≤ places_limit) (sym t.placed) within in
+    let few_now : place_count (rows_in fs) ≤ places_limit = subst (λ n. n ≤ places_limit) placed few in
     record {
       table = record {
         schema_kept = t.schema_kept;
         kept = command_keeps schema s c (state_in fs given) None t.schema_kept t.kept answer;
+        spelled = command_spells schema s c (state_in fs given) None t.kept words t.given_few few_now answer t.spelled;
         exact = changed_exact schema c h b es t.exact stands names fit rows;
         placed = placed;
         texts = texts;
         rows_few = omega (arith, changed_length c h b es, t.rows_few);
-        places_few = subst (λ n. places_after c (row_of b) n ≤ places_limit) (sym t.placed) (places_within schema (rows_in es) c (row_of b) fit taken.places_left (subst (λ n. n ≤ places_limit) t.placed t.places_few));
+        places_few = few;
         text_few = subst (λ n. n ≤ text_limit) (sym texts) (grind (arith, nat_tests, left));
         given_few = t.given_few;
       };

@@ -24,3 +24,5 @@ pub mod TableSteps
 pub mod AmountLaws
 pub mod RefusalLaws
 pub mod LaterLaws
+pub mod BehindLaws
+pub mod LaterAgain

@@ -1,5 +1,5 @@
 -- A table after a command that makes a row.
-use Rattle.std.proofs.Common.{◌≡◌, ℕ, suc, ◌+◌, ◌<◌, Bool, true, false, cond, ◌&&◌, ◌==◌, List, [], ◌∷◌, ◌++◌, length, Option, Some, None, Ok, nat_le, refl, sym, ap, ap₂, ◌∙◌, subst, arith}
+use Rattle.std.proofs.Common.{◌≡◌, ℕ, suc, ◌+◌, ◌<◌, ◌≤◌, Bool, true, false, cond, ◌&&◌, ◌==◌, List, [], ◌∷◌, ◌++◌, length, Option, Some, None, Ok, nat_le, refl, sym, ap, ap₂, ◌∙◌, subst, arith}
 use Rattle.std.specs.Option.{is_some, option_map, option_map_or, option_or}
 use Rattle.std.proofs.lemmas.Bool.Decides.{nat_tests}
 use Rattle.std.proofs.lemmas.List.{append-nil, length-map, length_push}
@@ -13,7 +13,7 @@ use Rattle.state_model.specs.declared.command.Command.{Command}
 use Rattle.state_model.specs.declared.command.Command.TheVariants.{Make, MakeFor, Put, Unset, PutKey, DelKey, Push, SetAt, DelAt, Add, Del, Clear}
 use Rattle.state_model.specs.Rows as state
 use Rattle.state_model.specs.Rows.{emptied, held_in, is_live, place_count, put_row, row_at, text_bytes_of, values_in}
-use Rattle.state_model.specs.State.{State, ItemCount, rows_limit, last_number}
+use Rattle.state_model.specs.State.{State, ItemCount, rows_limit, places_limit, last_number}
 use Rattle.state_model.specs.Commands.{answer_of, counts_items, do_command, holder_of, made_row, makes_row, number_made, put_count, refusal_of, row_for, state_after, with_change, with_new}
 use Rattle.state_laws.proofs.Numbers.{live_row}
 use Rattle.command_laws.specs.Accounts.{count_of, row_text}
@@ -23,6 +23,7 @@ use Rattle.command_laws.proofs.ItemCounts.{who_of}
 use Rattle.command_laws.proofs.KeptStates.{command_keeps}
 use Rattle.command_laws.proofs.RowSums.{new_row_places, new_row_text}
 use Rattle.command_laws.proofs.SoundRows.{sound_rises}
+use Rattle.command_laws.proofs.SpelledStates.{command_spells, makes_worded}
 use Rattle.plain_rows.specs.Links.{held_at}
 use Rattle.instance_table.specs.declared.node.Node.{Node}
 use Rattle.instance_table.specs.declared.body.Body.{Body}
@@ -222,17 +223,22 @@ made_table schema es given places text c row t free names made =
     let texts : text ≡ text_bytes_of (rows_in fs) = t.texts ∙ (omega (arith, new_row_text s.rows k row rise gone, empty.text) ∙ ap text_bytes_of (sym (new_rows k row es a))) in
     let rows_left : nat_le rows_limit (length (rows_in es)) ≡ false = sym (ap (λ b. b && nat_le rows_limit (length (rows_in es))) (makes_one c names)) ∙ taken.rows_left in
     let refs_left : nat_le last_number given ≡ false = sym (ap (λ b. b && nat_le last_number given) (makes_one c names)) ∙ taken.refs_left in
+    let less : given < last_number = grind (arith, nat_tests, refs_left) in
+    let given_few : k ≤ last_number = omega (arith, less) in
+    let words = makes_worded c (makes_one c names) in
+    let few : place_count (rows_in fs) ≤ places_limit = subst (λ n. n ≤ places_limit) placed t.places_few in
     record {
       table = record {
         schema_kept = t.schema_kept;
         kept = command_keeps schema s c (state_in fs k) (Some k) t.schema_kept t.kept answer;
+        spelled = command_spells schema s c (state_in fs k) (Some k) t.kept words given_few few answer t.spelled;
         exact = new_exact schema es given places text row t a empty.held;
         placed = placed;
         texts = texts;
         rows_few = (let less : length (rows_in es) < rows_limit = grind (arith, nat_tests, rows_left) in omega (arith, less, length_push es (k, new_node row), length-map es entry_row));
         places_few = t.places_few;
         text_few = t.text_few;
-        given_few = (let less : given < last_number = grind (arith, nat_tests, refs_left) in omega (arith, less));
+        given_few = given_few;
       };
       answer = answer;
     }

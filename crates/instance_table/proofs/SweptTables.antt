@@ -1,13 +1,15 @@
 -- A table after a sweep.
-use Rattle.std.proofs.Common.{◌≡◌, ℕ, ◌+◌, ◌≤◌, List, length, filter, IsPermutation, sym, ap₂, subst, arith}
+use Rattle.std.proofs.Common.{◌≡◌, ℕ, ◌+◌, ◌≤◌, List, length, filter, IsPermutation, sym, ap, ap₂, ◌∙◌, subst, arith}
 use Rattle.schema_model.specs.Classes.{Schema}
 use Rattle.state_model.specs.declared.row.RowEntry.{RowEntry}
 use Rattle.state_model.specs.Reached.{freed}
 use Rattle.state_model.specs.Rows.{is_live, place_count, text_bytes_of}
+use Rattle.state_model.specs.Spelled.{are_spelled}
 use Rattle.state_model.specs.State.{State, ItemCount, swept}
 use Rattle.command_laws.specs.Accounts.{count_of, one_if}
 use Rattle.command_laws.specs.Kept.{IsKept}
 use Rattle.command_laws.proofs.SoundRows.{sound_rises}
+use Rattle.command_laws.proofs.SpelledStates.{sweep_spells}
 use Rattle.command_laws.proofs.SweptStates.{sweep_keeps}
 use Rattle.instance_table.specs.declared.node.Node.{Node}
 use Rattle.instance_table.specs.Holders.{AscendsFrom}
@@ -26,6 +28,7 @@ pub swept_table : (schema : Schema) (es fs : List (ℕ × Node)) (given places t
 swept_table schema es fs given places text now after t rows counts exact placed texts fewer shorter less = record {
   schema_kept = t.schema_kept;
   kept = subst (λ (s : State). IsKept schema s) (sym (swept_state es fs given rows counts)) (sweep_keeps schema (state_in es given) t.kept);
+  spelled = ap are_spelled rows ∙ sweep_spells (state_in es given) t.spelled;
   exact = exact;
   placed = placed;
   texts = texts;

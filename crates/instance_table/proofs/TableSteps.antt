@@ -10,6 +10,7 @@ use Rattle.state_model.specs.declared.command.TableFault.{TableFault}
 use Rattle.state_model.specs.declared.command.TableFault.TheVariants as fault
 use Rattle.state_model.specs.Rows as state
 use Rattle.state_model.specs.Rows.{is_live, place_count, row_at, text_bytes_of, values_in}
+use Rattle.state_model.specs.Spelled.{are_spelled}
 use Rattle.state_model.specs.State.{State, next_item, last_number, text_limit}
 use Rattle.state_model.specs.Commands.{gives_number, holder_of, refusal_of, row_for, value_put}
 use Rattle.state_laws.proofs.Numbers.{live_row}
@@ -106,6 +107,7 @@ back_table schema link h es given places text t =
       table = record {
         schema_kept = t.schema_kept;
         kept = subst (λ s. IsKept schema s) (sym same) t.kept;
+        spelled = ap are_spelled rows ∙ t.spelled;
         exact = exact_undone link h es t.exact;
         placed = t.placed ∙ ap place_count (sym rows);
         texts = t.texts ∙ ap text_bytes_of (sym rows);

@@ -1,4 +1,5 @@
 pub mod Amounts
+pub mod Behind
 pub mod Bodies
 pub mod Changes
 pub mod Graph

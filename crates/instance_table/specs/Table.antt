@@ -9,6 +9,7 @@ use Rattle.state_model.specs.declared.command.TableFault.{TableFault}
 use Rattle.state_model.specs.declared.command.TableFault.TheVariants as fault
 use Rattle.state_model.specs.Rows.{row_at, is_live, place_count, text_bytes_of}
 use Rattle.state_model.specs.Reached.{freed}
+use Rattle.state_model.specs.Spelled.{are_spelled}
 use Rattle.state_model.specs.State.{State, new_state, rows_limit, places_limit, text_limit, last_number}
 use Rattle.plain_rows.specs.Links.{held_at}
 use Rattle.command_laws.specs.Kept.{IsKept}
@@ -54,10 +55,11 @@ pub record IsExact (es : List (ℕ × Node)) : Type 0 where
   pub ascend : (who : ℕ) (n : Node) → node_at es who ≡ Some n → AscendsFrom 0 n.holders
   pub wait : (who : ℕ) (n : Node) → node_at es who ≡ Some n → (who == 0) ≡ false → (length n.holders == 0) ≡ true → n.waits ≡ true
 
--- the nodes are those of a kept state within the limits, of so many places and bytes of text
+-- the nodes are those of a kept state within the limits, whose rows have bytes, of so many places and bytes of text
 pub record IsTable (schema : Schema) (es : List (ℕ × Node)) (given places text : ℕ) : Type 0 where
   pub schema_kept : is_kept schema ≡ true
   pub kept : IsKept schema (state_in es given)
+  pub spelled : are_spelled (rows_in es) ≡ true
   pub exact : IsExact es
   pub placed : places ≡ place_count (rows_in es)
   pub texts : text ≡ text_bytes_of (rows_in es)

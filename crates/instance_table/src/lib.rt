@@ -2,6 +2,7 @@
 #![tactic(auto)]
 
 mod amounts;
+mod behind;
 pub mod body;
 mod cause;
 mod changes;
@@ -25,5 +26,6 @@ mod totals;
 mod trial;
 mod typed;
 mod walk;
+mod worded;
 
 pub use table::Table;

@@ -1,14 +1,18 @@
 //! The shared graph of a room.
 ghost use Rattle.std.specs.Prelude.{◌≡◌, ◌+◌, Err, IfOk, None, Ok, OnErr, OnOk, Some, false, is_ok, length, option_copied, slice_get, true};
+ghost use Rattle.std.specs.Option.{option_map};
 ghost use Rattle.state_model.specs.declared.command.TableFault.TheVariants as fault;
 ghost use Rattle.state_model.specs.Commands.{do_command, holder_of, refusal_of};
+ghost use Rattle.state_model.specs.Spelled.{are_spelled};
 ghost use Rattle.state_model.specs.State as state;
 ghost use Rattle.command_laws.specs.Kept.{IsKept};
+ghost use Rattle.instance_table.specs.Behind.{numbers_behind, places_behind};
 ghost use Rattle.instance_table.specs.Bodies.{takes_out};
 ghost use Rattle.instance_table.specs.Holders.{holders_of};
 ghost use Rattle.instance_table.specs.Later.{IsLater};
 ghost use Rattle.instance_table.specs.Table.{Answers, freed_numbers, new_table, value_of};
 
+use crate::behind::numbers_behind;
 use crate::body::Body;
 use crate::changes::change;
 use crate::graph::Graph;
@@ -18,8 +22,9 @@ use crate::replaced::holder_of;
 use crate::roomy_list::RoomyList;
 use crate::sweeping::sweep;
 use crate::totals::{Totals, totals_after};
+use crate::worded::know_texts;
 use lists::Rising;
-use schema_model::{Memory, Place, RefNum, Schema, Value};
+use schema_model::{Memory, Place, RefNum, Schema, Tag, Value};
 use state_model::{Command, Rows, TableFault};
 use std::alloc::Global;
 use std::marker::Model;
@@ -69,10 +74,11 @@ impl Table {
         })
     }
 
-    /// The schema. Every table's rows are sound and without a cycle.
+    /// The schema. Every table's rows are sound and without a cycle, and their numbers, keys and texts have bytes.
     pub fn schema(&self) -> &Schema
         ensures value { result.now ≡ self.now.schema }
         ensures kept { IsKept self.now.schema self.now.state }
+        ensures spelled { are_spelled self.now.state.rows ≡ true }
     {
         &self.schema
     }
@@ -151,6 +157,7 @@ impl Table {
         ensures err { OnErr result (self.new ≡ self.old) }
         ensures sure { takes_out command.now ≡ true → is_ok result ≡ true }
     {
+        know_texts(command);
         let totals = totals_after(self.totals, &self.graph, holder, command);
         change(&mut self.graph, self.alloc, holder, command)?;
         self.totals = totals;
@@ -188,6 +195,28 @@ impl Table {
         steps.tick();
         let node = self.graph.get(who)?;
         node.holders.at(n as usize)
+    }
+
+    /// The number of a row and every number that is reached from it through places that are untagged or have the tag,
+    /// rising; None exactly where the row isn't live. Every item of a collection leads on. It looks once at each place
+    /// of the rows of these numbers, and at no others.
+    pub fn behind<L: Ledger>(
+        &self,
+        who: RefNum,
+        tag: Tag,
+        steps: &mut Steps<L>,
+    ) -> Result<Option<Vec<RefNum>>, Memory>
+        ensures value { IfOk result (λ found.
+            option_map (λ ns. ns.items) found ≡ numbers_behind self.now.schema self.now.state.rows who tag) }
+        ensures cost { OnOk result (
+            steps.new ≡ steps.old + places_behind self.now.schema self.now.state.rows who tag) }
+    {
+        if self.graph.get(who).is_none() {
+            return Ok(None);
+        }
+        let nodes = self.graph.nodes();
+        let numbers = numbers_behind(self.alloc, &self.schema, nodes, who, tag, steps)?;
+        Ok(Some(numbers))
     }
 
     /// All rows.

@@ -2,7 +2,7 @@ use crate::trial::Act::{
     Add, Clear, Del, DelAt, DelKey, Make, MakeFor, Push, Put, PutKey, PutLongKey, SetAt, Unset,
 };
 use crate::trial::Given::{Link, Long, Str, Truth, Whole};
-use crate::trial::Step::{Does, Finds, Holds, Makes, Refuses, Repeats, Sweeps, SweepsMany};
+use crate::trial::Step::{Does, Finds, Holds, Leads, Makes, Refuses, Repeats, Sweeps, SweepsMany};
 use crate::trial::{
     CARD, COLLECTIONS, COUNT, GUEST, HAND, LEADER, NAME, NEXT, NUMBERS, PILE, PLAYER, PLAYERS,
     ROOT, STATE, Step, TAGS, TEXTS, game, nodes, run,
@@ -413,4 +413,35 @@ const HOLDERS: &[Step] = &[
 #[test]
 fn tells_the_holders_of_a_row(rt: HostRuntime) -> Result<(), Fail> {
     run(&rt, rt.alloc(), game(rt.alloc())?, HOLDERS)
+}
+
+// The hand is under the tag -1, all other fields that hold rows are untagged: a card in it is behind the root under -1
+// alone, but the one that lies in the pile too. Behind a collection are all its items, whatever its own tag.
+const BEHIND: &[Step] = &[
+    Does(&[
+        Make(PLAYER),
+        PutKey(PLAYERS, "s1", Link(7)),
+        Make(CARD),
+        Make(CARD),
+        Push(PILE, Link(8)),
+        Push(HAND, Link(9)),
+        Push(HAND, Link(8)),
+        Make(STATE),
+        Put(10, NEXT, Link(ROOT)),
+        Put(10, LEADER, Link(7)),
+    ]),
+    Leads(ROOT, -1, Some(&[0, 1, 2, 3, 4, 5, 6, 7, 8, 9])),
+    Leads(ROOT, 3, Some(&[0, 1, 2, 3, 4, 6, 7, 8])),
+    Leads(HAND, 3, Some(&[5, 8, 9])),
+    Leads(PLAYERS, -1, Some(&[4, 7])),
+    Leads(7, -1, Some(&[7])),
+    Leads(10, 3, Some(&[0, 1, 2, 3, 4, 6, 7, 8, 10])),
+    Leads(11, -1, None),
+    Sweeps(&[10]),
+    Leads(10, 3, None),
+];
+
+#[test]
+fn tells_what_is_behind_a_row(rt: HostRuntime) -> Result<(), Fail> {
+    run(&rt, rt.alloc(), game(rt.alloc())?, BEHIND)
 }

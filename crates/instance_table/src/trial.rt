@@ -277,6 +277,8 @@ pub enum Step {
     Finds(u32, Key, Option<Given>),
     /// The places of these rows hold a row, rising.
     Holds(u32, &'static [u32]),
+    /// A row leads on to these by way of places that are untagged or have the tag, rising; None where it isn't live.
+    Leads(u32, i16, Option<&'static [u32]>),
 }
 
 // Whether this stands in a place. To look is one step, whatever is found.
@@ -318,6 +320,29 @@ fn check_holders<L: Ledger>(
         let wanted = wanted.get(n as usize).copied();
         assert_eq!(rt; found.map(|holder| holder.0), wanted, "{who:?} {n}");
     }
+}
+
+// Whether these numbers were found.
+fn are_numbers(found: &Option<Vec<RefNum>>, wanted: Option<&[u32]>) -> bool {
+    match (found, wanted) {
+        (Some(found), Some(wanted)) => found.len() == wanted.len()
+            && found.as_slice().iter().zip(wanted).all(|(a, b)| a.0 == *b),
+        (None, None) => true,
+        _ => false,
+    }
+}
+
+fn check_behind<L: Ledger>(
+    rt: &impl Abort,
+    table: &Table,
+    steps: &mut Steps<L>,
+    who: RefNum,
+    tag: Tag,
+    wanted: Option<&[u32]>,
+) -> Result<(), Fail> {
+    let found = table.behind(who, tag, steps)?;
+    assert!(rt; are_numbers(&found, wanted), "{who:?} {tag:?}");
+    Ok(())
 }
 
 fn check_refusals(
@@ -393,6 +418,9 @@ fn check<L: Ledger>(
             assert!(rt; found, "{at:?}");
         }
         Step::Holds(who, wanted) => check_holders(rt, table, steps, RefNum(*who), wanted),
+        Step::Leads(who, tag, wanted) => {
+            check_behind(rt, table, steps, RefNum(*who), Tag(*tag), *wanted)?
+        }
     }
     Ok(())
 }

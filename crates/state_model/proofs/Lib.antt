@@ -8,3 +8,4 @@ pub mod SoundRows
 pub mod CommandRows
 pub mod RefusalRows
 pub mod ViewRows
+pub mod SpelledRows

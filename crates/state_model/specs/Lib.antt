@@ -7,3 +7,4 @@ pub mod State
 pub mod Commands
 pub mod Members
 pub mod Shown
+pub mod Spelled

@@ -46,11 +46,16 @@ abbrev pub row_through : Schema → ℤ → Row → Row
 row_through schema tag (Struct class fields) = Struct class (filter (λ (f : FieldValue). leads_on tag (tag_of schema class f.field)) fields)
 row_through schema tag row = row
 
+-- the rows through which a view edit goes: each with the places that lead on for a tag
+abbrev pub rows_through : Schema → ℤ → List RowEntry → List RowEntry
+rows_through schema tag rows =
+    map (λ (e : RowEntry). let s : RowEntry = record { who = e.who; row = row_through schema tag e.row } in s) rows
+
 -- the pairs of a view edit: of the row, and of every row reached from it through places that are untagged or have the tag
 abbrev pub pairs_behind : Schema → List RowEntry → Pair → List Pair
 pairs_behind schema rows p =
     map (λ n. let q : Pair = record { who = n; tag = p.tag } in q)
-    (reached (map (λ (e : RowEntry). let s : RowEntry = record { who = e.who; row = row_through schema p.tag e.row } in s) rows) p.who)
+    (reached (rows_through schema p.tag rows) p.who)
 
 -- after a row was added to the view
 abbrev pub view_added : Schema → List RowEntry → Pair → Members → Members

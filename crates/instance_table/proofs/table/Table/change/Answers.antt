@@ -23,7 +23,7 @@ totals_after-totals-requires-clause-few c =
     let i = c.self.inside in
     let free = ap (λ (t : TableState). refusal_of t.schema t.state c.args.command.now) c.self.view_is ∙ c.requires.free in
     of_some (node_at i.graph.nodes c.args.holder)
-    (λ n at. (changed_table i.schema i.graph.nodes i.given i.totals.places i.totals.text c.args.holder c.args.command.now n.body c.self.invariant.0 free c.requires.changes (ap (option_map (λ (x : Node). x.body)) at)).table.text_few)
+    (λ n at. (changed_table i.schema i.graph.nodes i.given i.totals.places i.totals.text c.args.holder c.args.command.now n.body c.self.invariant.0 c.know_texts.ensures free c.requires.changes (ap (option_map (λ (x : Node). x.body)) at)).table.text_few)
 
 pub change-requires : goal.change-requires
 change-requires c =
@@ -65,7 +65,7 @@ is_changed c =
     let free = ap (λ (t : TableState). refusal_of t.schema t.state command) c.self.view_is ∙ c.requires.free in
     let nodes : c.change.new.graph.nodes ≡ changed command h n.body es = told_of (λ n. c.change.new.graph.nodes ≡ changed command h n.body es) (node_at es h) n at c.in_ok-change.ensures.ok in
     subst (λ l. IsChanged i.schema es l i.given i.totals.places i.totals.text command n.body) (sym nodes)
-    (changed_table i.schema es i.given i.totals.places i.totals.text h command n.body c.self.invariant.0 free c.requires.changes (ap (option_map (λ (x : Node). x.body)) at))
+    (changed_table i.schema es i.given i.totals.places i.totals.text h command n.body c.self.invariant.0 c.know_texts.ensures free c.requires.changes (ap (option_map (λ (x : Node). x.body)) at))
 
 pub invariant_of-self-2 : goal.invariant_of-self-2
 invariant_of-self-2 c =

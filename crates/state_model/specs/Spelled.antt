@@ -11,7 +11,10 @@ use Rattle.state_model.specs.declared.row.RowEntry.{RowEntry}
 use Rattle.state_model.specs.declared.row.FieldValue.{FieldValue}
 use Rattle.state_model.specs.declared.row.MapItem.{MapItem}
 use Rattle.state_model.specs.declared.row.SetItem.{SetItem}
-use Rattle.block_laws.specs.Writable.{is_count}
+
+-- a reference, type, item or position number is at most 2147483647
+abbrev pub is_count : ℕ → Bool
+is_count n = nat_lt n (2 ^ 31)
 
 -- a text is UTF-8, and a link leads to such a number
 abbrev pub is_spelled_value : Value → Bool

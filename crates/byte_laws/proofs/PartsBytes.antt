@@ -1,0 +1,28 @@
+-- Each part of a frame has bytes, and the shared part means against a client's rows what it is.
+use Rattle.std.proofs.Common.{[], refl, sym, ap, ◌∙◌, append-nil}
+use Rattle.state_model.specs.Rows.{is_live, kinds_of}
+use Rattle.state_model.specs.Shown.{shared}
+use Rattle.wire_model.specs.Edits.{told_blocks}
+use Rattle.wire_model.specs.Effect.{apply_edits}
+use Rattle.wire_model.specs.Resolved.{resolved_blocks}
+use Rattle.wire_laws.specs.FrameLaw.{view_at}
+use Rattle.wire_laws.proofs.ToldBlocks.{follows_patch}
+use Rattle.block_laws.specs.Writable.{are_writable}
+use Rattle.byte_laws.specs.BytesLaw.{PartsHaveBytes, shared_blocks, view_blocks}
+use Rattle.byte_laws.proofs.PatchBlocks.{blocks_writable}
+use Rattle.byte_laws.proofs.KnownBlocks.{front_means}
+use Rattle.byte_laws.proofs.FrameParts.{parts_of}
+
+pub parts_have_bytes : PartsHaveBytes
+parts_have_bytes schema old new kept f old_bytes new_bytes =
+    let p = parts_of schema old new kept f old_bytes new_bytes in
+    let client = view_at schema old in
+    let first = shared_blocks schema old new in
+    let last = view_blocks schema old new in
+    let mean = front_means schema (shared schema new.rows) p.shared_rows first [] (kinds_of client) (is_live (shared schema old.rows)) p.shared_knows p.shared_known
+    (follows_patch schema (shared schema old.rows) (shared schema new.rows)) p.shared_fit in
+    record {
+      shared_written = ap (λ bs. are_writable (told_blocks bs)) (sym (append-nil first)) ∙ blocks_writable schema (shared schema new.rows) kept p.shared_rows first [] p.shared_fit refl;
+      view_written = ap (λ bs. are_writable (told_blocks bs)) (sym (append-nil last)) ∙ blocks_writable schema (view_at schema new) kept p.view_rows last [] p.view_fit refl;
+      shared_means = ap (λ bs. apply_edits bs client) (ap (λ bs. resolved_blocks schema (kinds_of client) (told_blocks bs)) (sym (append-nil first)) ∙ (mean ∙ append-nil first));
+    }

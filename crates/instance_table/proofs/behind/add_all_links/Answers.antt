@@ -1,0 +1,28 @@
+use Rattle.std.proofs.Common.{◌≡◌, ◌∙◌, ◌<◌, length, ap, arith}
+use Rattle.std.specs.Prelude.{option_copied, slice_get}
+use Rattle.state_model.specs.Rows.{values_in}
+use Rattle.command_laws.specs.Accounts.{held_in_value}
+use Rattle.instance_table.specs.Bodies.{row_of}
+use Rattle.instance_table.proofs.LinkLaws.{links_all, links_next}
+use Rattle.instance_table.proofs.behind.add_all_links.Goals as goal
+
+pub loop-n-preserved : goal.loop-n-preserved
+loop-n-preserved g c =
+    let values = values_in (row_of c.args.body.now) in
+    let at : option_copied c.value_nth.result ≡ slice_get values c.loop-n.n = c.value_nth.ensures in
+    let held = c.link_of.ensures.held ∙ ap held_in_value at in
+    let here : c.loop-n.n < length values = omega (arith, c.len-count.ensures, c.loop-n-test.true) in
+    record {
+      links = links_next c.args.links.now.items c.loop-n.links.items c.add_link.new.links.items c.loop-n.n values
+          c.link_of.result here held c.loop-n.invariant.links c.in_ok-add_link.ensures;
+      cost = omega (arith, c.loop-n.invariant.cost, c.tick.ensures);
+    }
+
+pub returns-clause-links : goal.returns-clause-links
+returns-clause-links g c =
+    links_all c.args.links.now.items c.loop-n.links.items c.loop-n.n (values_in (row_of c.args.body.now))
+    (omega (arith, c.len-count.ensures, c.loop-n-test.false, c.loop-n.auto.n-end)) c.loop-n.invariant.links
+
+pub returns-clause-cost : goal.returns-clause-cost
+returns-clause-cost g c =
+    omega (arith, c.len-count.ensures, c.loop-n-test.false, c.loop-n.auto.n-end, c.loop-n.invariant.cost)

@@ -1,0 +1,11 @@
+use Rattle.std.proofs.Common.{◌≡◌, ◌+◌, ◌++◌}
+use Rattle.state_model.specs.Rows.{values_in}
+use Rattle.instance_table.specs.Bodies.{row_of}
+use Rattle.instance_table.proofs.LinkLaws.{held_first}
+use Rattle.instance_table.proofs.behind.add_all_links.Given as goal
+
+abbrev pub invariant-loop-n : goal.invariant-loop-n
+invariant-loop-n g l = record {
+  links : l.links.items ≡ l.initial.links.items ++ held_first l.n (values_in (row_of l.body));
+  cost : l.steps ≡ l.initial.steps + l.n;
+}

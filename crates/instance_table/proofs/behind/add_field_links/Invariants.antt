@@ -1,0 +1,11 @@
+use Rattle.std.proofs.Common.{◌≡◌, ◌+◌, ◌++◌, take}
+use Rattle.std.specs.List.{flat_map}
+use Rattle.instance_table.specs.Behind.{held_through}
+use Rattle.instance_table.proofs.behind.add_field_links.Given as goal
+
+abbrev pub invariant-loop-field : goal.invariant-loop-field
+invariant-loop-field g l = record {
+  links : l.links.items ≡ l.initial.links.items
+      ++ flat_map (held_through l.schema l.tag l.class) (take l.field-index l.fields);
+  cost : l.steps ≡ l.initial.steps + l.field-index;
+}
