@@ -1,0 +1,10 @@
+pub mod ComeLaws
+pub mod EntryLaws
+pub mod MemberLaws
+pub mod PairLists
+pub mod PlaceLaws
+pub mod RankLists
+pub mod RowLaws
+pub mod SpareLaws
+pub mod StandingLaws
+pub mod TickLaws

@@ -1,0 +1,3 @@
+pub mod Sets
+pub mod Standings
+pub use Rattle.state_model.specs.Members

@@ -1,0 +1,15 @@
+//! The members of one client's view: now, at the last tick, and kept since then.
+#![tactic(auto)]
+
+pub mod fault;
+pub mod members;
+mod rank;
+mod ranks;
+mod sets;
+mod standing;
+#[cfg(test)]
+mod tests;
+mod turns;
+
+pub use fault::MemberFault;
+pub use members::Members;

@@ -1,0 +1,152 @@
+//! Pairs that come and leave, and what a tick's end makes of them.
+ghost use Rattle.std.specs.Prelude.{◌≡◌, ◌<◌, ◌≤◌, ◌^◌, [], length};
+ghost use Rattle.view_members.specs.Sets.{without_row};
+ghost use Rattle.view_members.specs.Standings.{is_now, is_changed, is_passed, is_spare, ranks_of, members_of, come_at, leave_at, come_all, without_spare, without_spares, AllFit, IsKept, MakesRoom, TakesRoom, settled_at};
+
+use crate::fault::MemberFault;
+use crate::rank::{TAGS, rank_of};
+use crate::sets::Sets;
+use crate::standing::Standing;
+use schema_model::{Pair, RefNum};
+
+/// How many pairs may be kept.
+const LIMIT: usize = 65536;
+
+// The pair of this rank comes, if it has an entry.
+fn come(sets: &mut Sets, rank: u64)
+    ensures { sets.new ≡ come_at rank sets.old }
+{
+    if let Some(standing) = sets.get(rank) {
+        sets.set(rank, standing.coming());
+    }
+}
+
+/// Those of these pairs come that have an entry.
+pub fn come_each(sets: &mut Sets, pairs: &[Pair])
+    ensures { sets.new ≡ come_all pairs.now sets.old }
+{
+    for pair in pairs {
+        come(sets, rank_of(*pair));
+    }
+}
+
+/// The pair of this rank leaves, if it has an entry.
+pub fn leave(sets: &mut Sets, rank: u64)
+    ensures entries { sets.new ≡ leave_at rank sets.old }
+    ensures kept { IsKept sets.old }
+{
+    if let Some(standing) = sets.get(rank) {
+        sets.set(rank, standing.leaving());
+    }
+}
+
+/// Every pair of a row leaves.
+pub fn leave_row(sets: &mut Sets, who: RefNum)
+    ensures members { members_of sets.new ≡ without_row who (members_of sets.old) }
+    ensures spare { ranks_of is_spare sets.new ≡ ranks_of is_spare sets.old }
+    ensures len { length sets.new ≡ length sets.old }
+{
+    let mut from = TAGS * u64::from(who.0);
+    let end = from + TAGS;
+    while let Some(rank) = sets.first_from(from) {
+        if rank >= end {
+            return;
+        }
+        leave(sets, rank);
+        from = rank + 1;
+    }
+}
+
+// Room for the pair of a rank, where it has no entry.
+fn make_room(sets: &mut Sets, rank: u64) -> Result<(), MemberFault>
+    requires below { rank < 2 ^ 48 }
+    requires few { length sets.old ≤ 65536 }
+    ensures value { MakesRoom rank sets.old sets.new result }
+    ensures kept { IsKept sets.old }
+{
+    if sets.get(rank).is_some() {
+        return Ok(());
+    }
+    if sets.len() >= LIMIT {
+        return Err(MemberFault::ViewFull);
+    }
+    sets.add_spare(rank)?;
+    Ok(())
+}
+
+// The room of a pair is given back, where no pair came into it.
+fn drop_spare(sets: &mut Sets, rank: u64)
+    ensures { sets.new ≡ without_spare rank sets.old }
+{
+    let Some(standing) = sets.get(rank) else {
+        return;
+    };
+    if standing.spare() {
+        sets.take_out(rank);
+    }
+}
+
+// The room of these pairs is given back.
+fn drop_spares(sets: &mut Sets, pairs: &[Pair])
+    ensures entries { sets.new ≡ without_spares pairs.now sets.old }
+    ensures fit { AllFit pairs.now }
+{
+    for pair in pairs {
+        drop_spare(sets, rank_of(*pair));
+    }
+}
+
+/// Room for these pairs, as far as they have no entries. An `Err` changes nothing.
+pub fn take_room(sets: &mut Sets, pairs: &[Pair]) -> Result<(), MemberFault>
+    requires few { length sets.old ≤ 65536 }
+    requires spare { ranks_of is_spare sets.old ≡ [] }
+    ensures value { TakesRoom pairs.now sets.old sets.new result }
+    ensures fit { AllFit pairs.now }
+    ensures kept { IsKept sets.old }
+{
+    sets.keeps();
+    for pair in pairs {
+        if let Err(fault) = make_room(sets, rank_of(*pair)) {
+            drop_spares(sets, pairs);
+            return Err(fault);
+        }
+    }
+    Ok(())
+}
+
+// The pair of a rank that changed is no longer told as changed.
+fn settle(sets: &mut Sets, rank: u64)
+    ensures { sets.new ≡ settled_at rank sets.old }
+{
+    if let Some(Standing::Came) = sets.get(rank) {
+        sets.set(rank, Standing::Stays);
+    } else {
+        sets.take_out(rank);
+    }
+}
+
+/// No pair is told as changed any more; the members stay.
+pub fn settle_changed(sets: &mut Sets)
+    ensures now { ranks_of is_now sets.new ≡ ranks_of is_now sets.old }
+    ensures changed { ranks_of is_changed sets.new ≡ [] }
+    ensures spare { ranks_of is_spare sets.new ≡ ranks_of is_spare sets.old }
+    ensures len { length sets.new ≤ length sets.old }
+{
+    while let Some(rank) = sets.last_changed() {
+        settle(sets, rank);
+    }
+}
+
+/// No pair is told as passed any more; nothing else changes.
+pub fn forget_passed(sets: &mut Sets)
+    ensures now { ranks_of is_now sets.new ≡ ranks_of is_now sets.old }
+    ensures changed { ranks_of is_changed sets.new ≡ ranks_of is_changed sets.old }
+    ensures passed { ranks_of is_passed sets.new ≡ [] }
+    ensures spare { ranks_of is_spare sets.new ≡ ranks_of is_spare sets.old }
+    ensures len { length sets.new ≤ length sets.old }
+    ensures kept { IsKept sets.new }
+{
+    while let Some(rank) = sets.last_passed() {
+        sets.take_out(rank);
+    }
+}
