@@ -1,0 +1,3 @@
+pub mod Live
+pub use Rattle.instance_table.specs.Table
+pub use Rattle.instance_table.specs.Later

@@ -1,0 +1,11 @@
+//! The live state of a room: its rows, changed by commands, and the pairs of a view edit.
+#![tactic(auto)]
+
+mod fault;
+pub mod live;
+#[cfg(test)]
+mod tests;
+
+pub use fault::ExpandFault;
+pub use instance_table::Table;
+pub use live::LiveState;
