@@ -1,11 +1,12 @@
 //! The rows that operations link to.
-ghost use Rattle.std.specs.Prelude.{◌≡◌, OnOk, if◌then◌else◌};
-ghost use Rattle.state_model.specs.Rows.{kinds_of, is_live, put_row, emptied};
+ghost use Rattle.std.specs.Prelude.{◌≡◌, List, OnOk};
+ghost use Rattle.state_model.specs.declared.row.RowEntry.{RowEntry};
+ghost use Rattle.state_model.specs.Rows.{kinds_of, emptied};
 ghost use Rattle.wire_model.specs.Effect.{with_linked};
 ghost use Rattle.wire_model.specs.Grammar.{resolved_value, wants_at};
 ghost use Rattle.wire_model.specs.Resolved.{holder_kind};
 ghost use Rattle.wire_model.specs.declared.op.OpKey.TheVariants.{Item};
-ghost use Rattle.canon_patch.specs.Applying.{with_link, with_links};
+ghost use Rattle.canon_patch.specs.Applying.{with_link, with_links, with_row};
 
 pub use crate::row::emptied;
 use crate::wanted::{new_collection, new_instance, wanted_at};
@@ -42,8 +43,8 @@ pub fn add_linked(
     Ok(())
 }
 
-/// Adds the row that an operation links to.
-pub fn add_link(
+// Adds the row that an operation links to.
+fn add_link(
     alloc: Global,
     schema: &Schema,
     rows: &mut Tree<RowEntry>,
@@ -52,47 +53,57 @@ pub fn add_link(
 ) -> Result<(), Memory>
     ensures { OnOk result (rows.new ≡ with_link schema.now holder.now op.now rows.old) }
 {
-    match op {
-        Op::Add(key, value) => add_value(alloc, schema, rows, holder, key, value),
-        Op::Replace(key, value) => add_value(alloc, schema, rows, holder, key, value),
-        Op::DeleteAdd(key, value) => add_value(alloc, schema, rows, holder, key, value),
-        Op::AddByRef(value) => add_value(alloc, schema, rows, holder, &OpKey::Item(0), value),
-        Op::Delete(_) | Op::Clear | Op::DeleteByRef(_) => Ok(()),
+    match linked_row(alloc, schema, holder, op) {
+        Some(entry) => add_row(rows, entry),
+        None => Ok(()),
     }
 }
 
-// Adds the row that a value links to, which stands at this key.
-fn add_value(
+/// The row that an operation links to, as it is where it is new.
+pub fn linked_row(alloc: Global, schema: &Schema, holder: &Row, op: &Op) -> Option<RowEntry>
+    ensures { (rows : List RowEntry) → with_row result rows ≡ with_link schema.now holder.now op.now rows }
+{
+    match op {
+        Op::Add(key, value) => row_of_value(alloc, schema, holder, key, value),
+        Op::Replace(key, value) => row_of_value(alloc, schema, holder, key, value),
+        Op::DeleteAdd(key, value) => row_of_value(alloc, schema, holder, key, value),
+        Op::AddByRef(value) => row_of_value(alloc, schema, holder, &OpKey::Item(0), value),
+        Op::Delete(_) | Op::Clear | Op::DeleteByRef(_) => None,
+    }
+}
+
+// The row that a value links to, which stands at this key.
+fn row_of_value(
     alloc: Global,
     schema: &Schema,
-    rows: &mut Tree<RowEntry>,
     holder: &Row,
     key: &OpKey,
     value: &OpValue,
-) -> Result<(), Memory>
-    ensures { OnOk result (rows.new ≡ with_linked (resolved_value schema.now (kinds_of rows.old) (wants_at schema.now holder.now key.now) value.now) rows.old) }
+) -> Option<RowEntry>
+    ensures { (rows : List RowEntry) → with_row result rows ≡ with_linked (resolved_value schema.now (kinds_of rows) (wants_at schema.now holder.now key.now) value.now) rows }
 {
     match value {
-        OpValue::Scalar(_, _) => Ok(()),
+        OpValue::Scalar(_, _) => None,
         OpValue::Struct(who, mark) => {
             let row = new_instance(alloc, *mark, wanted_at(schema, holder, key));
-            add_row(rows, *who, row)
+            Some(RowEntry { who: *who, row })
         }
         OpValue::Coll(who) => {
             let row = new_collection(alloc, schema, wanted_at(schema, holder, key));
-            add_row(rows, *who, row)
+            Some(RowEntry { who: *who, row })
         }
     }
 }
 
 // Adds a row where there is none of its number.
-fn add_row(rows: &mut Tree<RowEntry>, who: RefNum, row: Row) -> Result<(), Memory>
-    ensures { OnOk result (rows.new ≡ (if is_live rows.old who then rows.old else put_row who row rows.old)) }
+fn add_row(rows: &mut Tree<RowEntry>, entry: RowEntry) -> Result<(), Memory>
+    ensures { OnOk result (rows.new ≡ with_row (Some entry) rows.old) }
 {
+    let who = entry.who;
     match rows.get(who.0) {
         Some(_) => Ok(()),
         None => {
-            rows.put(RowEntry { who, row })?;
+            rows.put(entry)?;
             Ok(())
         }
     }

@@ -24,7 +24,6 @@ use Rattle.wire_model.specs.Grammar.{PlacedEdit, Progress, with_edit, turned, di
 use Rattle.wire_model.specs.Decoded.{decoded, edits_of, missed_in, missed_by, run_or_miss, ended_by}
 use Rattle.wire_laws.proofs.ToldKnown.{is_live-kinds_of}
 use Rattle.wire_laws.proofs.LinkedRows.{with_carried}
-use Rattle.wire_ops.specs.Bodies.{body_of}
 use Rattle.wire_ops.specs.PlainEdits.{plain_edit}
 use Rattle.op_reader.specs.Known.{is_holder}
 use Rattle.patch_decoder.specs.declared.run.Run.{Run}
@@ -193,7 +192,7 @@ read_fails schema start bytes run at f g below read =
 
 -- an item that is missed
 op_misses : (schema : Schema) (start : List RowEntry) (bytes : List ℕ) (run : Run) (at : ℕ) (o : Op) (next : ℕ) (f : OpFault) → Goes schema start bytes run at → at < length bytes →
-    step_at schema run.rows run.who bytes at ≡ Ok (Do o, next) → f ≡ NoItem (at + 1) → finds (plain_edit o) (body_of run.holder) ≡ false → decoded schema bytes start ≡ Err f
+    step_at schema run.rows run.who bytes at ≡ Ok (Do o, next) → f ≡ NoItem (at + 1) → finds (plain_edit o) run.holder ≡ false → decoded schema bytes start ≡ Err f
 op_misses schema start bytes run at o next f g below read is missed =
     let behind = comes_behind schema start bytes run at g (Ok (Do o, next)) below read in
     let s = g.stands in
@@ -206,7 +205,7 @@ op_misses schema start bytes run at o next f g below read is missed =
     let there : row_at (with_named (bare (p.block.edits ++ x ∷ [])) s.all) p.block.holder ≡ Some s.row =
     ap (λ l. row_at l p.block.holder) more ∙ (ap (row_at (with_carried (carried_by e) named)) s.holder ∙ carried_keeps (carried_by e) named run.who s.row s.there) in
     let here : missed_in (p.block.edits ++ x ∷ []) (opened s.row) ≡ Some (p.at + 1) =
-    missed_here p.block.edits x (opened s.row) s.found (ap (finds e) (sym s.body) ∙ (sym (same_finds schema (kinds_of run.rows) run.kind o (body_of run.holder)) ∙ missed)) in
+    missed_here p.block.edits x (opened s.row) s.found (ap (finds e) (sym s.body) ∙ (sym (same_finds schema (kinds_of run.rows) run.kind o run.holder) ∙ missed)) in
     let by : missed_by (with_edit p.block e (p.at + 1)) s.all ≡ Some (p.at + 1) = ap (option_and_then (λ r. missed_in (p.block.edits ++ x ∷ []) (opened r))) there ∙ here in
     let fails : run_of (did p e next) start ≡ Err f =
     run_last (did p e next) start s.all s.done ∙ (ap (λ m. run_or_miss m (Ok (apply_edits (edits_of (with_edit p.block e (p.at + 1)) ∷ []) s.all))) by ∙ (ap (λ n. Err (NoItem (n + 1))) g.place ∙ ap Err (sym is))) in
@@ -215,7 +214,7 @@ op_misses schema start bytes run at o next f g below read is missed =
 -- either fault of a step
 fails_at : (schema : Schema) (start : List RowEntry) (bytes : List ℕ) (run : Run) (at : ℕ) (f : OpFault) → Goes schema start bytes run at → at < length bytes →
     ((step_at schema run.rows run.who bytes at ≡ Err f)
-    ⊎ ((o : Op) × (next : ℕ) × (step_at schema run.rows run.who bytes at ≡ Ok (Do o, next)) × (f ≡ NoItem (at + 1)) × (finds (plain_edit o) (body_of run.holder) ≡ false))) → decoded schema bytes start ≡ Err f
+    ⊎ ((o : Op) × (next : ℕ) × (step_at schema run.rows run.who bytes at ≡ Ok (Do o, next)) × (f ≡ NoItem (at + 1)) × (finds (plain_edit o) run.holder ≡ false))) → decoded schema bytes start ≡ Err f
 fails_at schema start bytes run at f g below (inl read) = read_fails schema start bytes run at f g below read
 fails_at schema start bytes run at f g below (inr m) = op_misses schema start bytes run at m.0 m.1 f g below m.2 m.3 m.4
 

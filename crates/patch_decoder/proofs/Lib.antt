@@ -1,9 +1,11 @@
-pub mod KindsRead
-pub mod ReadOn
 pub mod DeclaredFields
-pub mod LinkKinds
-pub mod Running
-pub mod RowsPut
-pub mod Standing
+pub mod DraftLaws
 pub mod Going
+pub mod Holes
+pub mod KindsRead
+pub mod LinkKinds
+pub mod ReadOn
+pub mod RowsPut
+pub mod Running
+pub mod Standing
 pub mod StepFaults

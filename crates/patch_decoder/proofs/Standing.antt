@@ -18,7 +18,6 @@ use Rattle.wire_model.specs.Resolved.{holder_kind}
 use Rattle.wire_laws.proofs.LinkedRows.{with_carried, named_rises}
 use Rattle.wire_laws.proofs.ToldKnown.{row_at-kinds_of}
 use Rattle.wire_laws.proofs.EditedForm.{edited_kind}
-use Rattle.wire_ops.specs.Bodies.{body_of}
 use Rattle.wire_ops.proofs.EffectLaws.{same_effect}
 use Rattle.canon_patch.proofs.Applying.{put_kind, link_known}
 use Rattle.patch_decoder.specs.declared.run.Run.{Run}
@@ -43,7 +42,7 @@ pub record Stands (schema : Schema) (start : List RowEntry) (p : Progress) (run 
   pub there : row_at (with_named (bare p.block.edits) all) run.who ≡ Some row
   pub rows : run.rows ≡ put_row run.who (emptied row) (with_named (bare p.block.edits) all)
   pub kind : run.kind ≡ emptied row
-  pub body : body_of run.holder ≡ after_edits (bare p.block.edits) (opened row)
+  pub body : run.holder ≡ after_edits (bare p.block.edits) (opened row)
   pub found : missed_in p.block.edits (opened row) ≡ None
   pub kinds : HasKinds schema run.rows
   pub root : is_live run.rows 0 ≡ true
@@ -114,8 +113,8 @@ stands_done schema start p run new o next s d brings run_rises =
       there = ap (λ l. row_at l new.who) more ∙ (ap (row_at (with_carried c named)) d.who ∙ there);
       rows = rows ∙ (ap (λ m. put_row m (emptied s.row) (with_carried c named)) (sym d.who) ∙ ap (put_row new.who (emptied s.row)) (sym more));
       kind = d.kind ∙ s.kind;
-      body = d.body ∙ (same_effect schema (kinds_of run.rows) run.kind o (body_of run.holder) ∙ (ap (effect e) s.body ∙ sym (bodies_more p.block.edits x (opened s.row))));
-      found = missed_found p.block.edits x (opened s.row) s.found (ap (finds e) (sym s.body) ∙ (sym (same_finds schema (kinds_of run.rows) run.kind o (body_of run.holder)) ∙ d.found));
+      body = d.body ∙ (same_effect schema (kinds_of run.rows) run.kind o run.holder ∙ (ap (effect e) s.body ∙ sym (bodies_more p.block.edits x (opened s.row))));
+      found = missed_found p.block.edits x (opened s.row) s.found (ap (finds e) (sym s.body) ∙ (sym (same_finds schema (kinds_of run.rows) run.kind o run.holder) ∙ d.found));
       kinds = subst (HasKinds schema) (sym d.rows) (kinds_carried schema c run.rows s.kinds brings);
       root = ap (λ l. is_live l 0) d.rows ∙ live_carried c run.rows 0 s.root;
     }
@@ -140,8 +139,8 @@ stands_closed schema start p run s =
     let named = named_in p s.all in
     let named_rise : RisesFrom number_of 0 named = named_rises (bare p.block.edits) s.all s.rises in
     let edited = closed (after_edits (bare p.block.edits) (opened s.row)) in
-    let is : closed (body_of run.holder) ≡ edited = ap closed s.body in
-    let kind : emptied (closed (body_of run.holder)) ≡ emptied s.row = ap emptied is ∙ edited_kind (bare p.block.edits) s.row in
+    let is : closed run.holder ≡ edited = ap closed s.body in
+    let kind : emptied (closed run.holder) ≡ emptied s.row = ap emptied is ∙ edited_kind (bare p.block.edits) s.row in
     let there : row_at named p.block.holder ≡ Some s.row = ap (row_at named) s.holder ∙ s.there in
     let shut : closed_rows run ≡ put_row run.who edited named =
     ap (λ r. put_row run.who r run.rows) is ∙ (ap (put_row run.who edited) s.rows ∙ put_twice named run.who (emptied s.row) edited named_rise) in
@@ -149,12 +148,12 @@ stands_closed schema start p run s =
     let none : missed_by p.block s.all ≡ None = ap (option_and_then (λ r. missed_in p.block.edits (opened r))) there ∙ s.found in
     let rise : RisesFrom number_of 0 run.rows = run_rises schema start p run s in
     let known_open : row_at run.rows run.who ≡ Some run.kind = open_known schema start p run s in
-    let fits : has_kind schema (closed (body_of run.holder)) ≡ true =
-    same_declared schema (closed (body_of run.holder)) run.kind (kind ∙ (sym (emptied_twice s.row) ∙ ap emptied (sym s.kind))) ∙ s.kinds run.who run.kind known_open in
+    let fits : has_kind schema (closed run.holder) ≡ true =
+    same_declared schema (closed run.holder) run.kind (kind ∙ (sym (emptied_twice s.row) ∙ ap emptied (sym s.kind))) ∙ s.kinds run.who run.kind known_open in
     record {
       ran = run_last p start s.all s.done ∙ (ap (λ o. run_or_miss o (Ok (apply_edits (edits_of p.block ∷ []) s.all))) none ∙ ap Ok (applied ∙ sym shut));
-      rises = puts_rise run.rows run.who (closed (body_of run.holder)) rise;
-      known = s.known ∙ sym (put_kind run.rows run.who run.kind (closed (body_of run.holder)) rise known_open (kind ∙ (sym (emptied_twice s.row) ∙ ap emptied (sym s.kind))));
-      kinds = kinds_put schema run.rows run.who (closed (body_of run.holder)) s.kinds fits;
-      root = live_put run.rows run.who 0 (closed (body_of run.holder)) s.root;
+      rises = puts_rise run.rows run.who (closed run.holder) rise;
+      known = s.known ∙ sym (put_kind run.rows run.who run.kind (closed run.holder) rise known_open (kind ∙ (sym (emptied_twice s.row) ∙ ap emptied (sym s.kind))));
+      kinds = kinds_put schema run.rows run.who (closed run.holder) s.kinds fits;
+      root = live_put run.rows run.who 0 (closed run.holder) s.root;
     }

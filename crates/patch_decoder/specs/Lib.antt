@@ -1,2 +1,4 @@
 pub mod Decoders
+pub mod Drafts
+pub mod Holes
 pub mod Runs

@@ -17,7 +17,6 @@ use Rattle.wire_model.specs.Decoded.{decoded}
 use Rattle.wire_model.specs.Effect.{opened, closed, effect, finds}
 use Rattle.wire_model.specs.Grammar.{step_at}
 use Rattle.wire_model.specs.Resolved.{holder_kind}
-use Rattle.wire_ops.specs.Bodies.{body_of}
 use Rattle.wire_ops.specs.PlainEdits.{plain_edit}
 use Rattle.canon_patch.specs.Applying.{with_link}
 use Rattle.patch_decoder.specs.declared.run.Run.{Run}
@@ -29,28 +28,28 @@ row_or_first rows who = option_map_or (λ r. r) (row_at rows who) (row.Struct 0 
 
 -- the rows with the open one closed
 abbrev pub closed_rows : Run → List RowEntry
-closed_rows run = put_row run.who (closed (body_of run.holder)) run.rows
+closed_rows run = put_row run.who (closed run.holder) run.rows
 
 -- of rows this one is open: of it the kind alone is among them
 pub record Opens (all : List RowEntry) (n : ℕ) (run : Run) : Type 0 where
   pub who : run.who ≡ n
   pub rows : run.rows ≡ put_row n (holder_kind (kinds_of all) n) all
   pub kind : run.kind ≡ holder_kind (kinds_of all) n
-  pub body : body_of run.holder ≡ opened (row_or_first all n)
+  pub body : run.holder ≡ opened (row_or_first all n)
 
 -- an operation found its item and is done to the open row; the row that it links to is there
 pub record Does (schema : Schema) (o : Op) (old new : Run) : Type 0 where
-  pub found : finds (plain_edit o) (body_of old.holder) ≡ true
+  pub found : finds (plain_edit o) old.holder ≡ true
   pub who : new.who ≡ old.who
   pub rows : new.rows ≡ with_link schema old.kind o old.rows
   pub kind : new.kind ≡ old.kind
-  pub body : body_of new.holder ≡ effect (plain_edit o) (body_of old.holder)
+  pub body : new.holder ≡ effect (plain_edit o) old.holder
 
 -- an operation is done, or it misses its item
 abbrev pub Acts : Schema → Op → ℕ → Run → Run → Result (Unit {0}) OpFault → Type 0
 Acts schema o place old new (Ok done) = Does schema o old new
 Acts schema o place old new (Err Memory) = Unit {0}
-Acts schema o place old new (Err f) = (f ≡ NoItem place) × (finds (plain_edit o) (body_of old.holder) ≡ false)
+Acts schema o place old new (Err f) = (f ≡ NoItem place) × (finds (plain_edit o) old.holder ≡ false)
 
 -- what a step does
 abbrev pub DoesStep : Schema → Step → Run → Run → Type 0
@@ -61,7 +60,7 @@ DoesStep schema (Do o) old new = Does schema o old new
 abbrev pub TakesStep : Schema → Step → ℕ → Run → Run → Result (Unit {0}) OpFault → Type 0
 TakesStep schema s place old new (Ok done) = DoesStep schema s old new
 TakesStep schema s place old new (Err Memory) = Unit {0}
-TakesStep schema s place old new (Err f) = (o : Op) × (s ≡ Do o) × (f ≡ NoItem place) × (finds (plain_edit o) (body_of old.holder) ≡ false)
+TakesStep schema s place old new (Err f) = (o : Op) × (s ≡ Do o) × (f ≡ NoItem place) × (finds (plain_edit o) old.holder ≡ false)
 
 -- the step at a place is read and done, or there is its fault
 abbrev pub Steps : Schema → List ℕ → ℕ → Run → Run → Result ℕ OpFault → Type 0
@@ -69,7 +68,7 @@ Steps schema bytes at old new (Ok next) = (s : Step) × (step_at schema old.rows
 Steps schema bytes at old new (Err Memory) = Unit {0}
 Steps schema bytes at old new (Err f) =
     (step_at schema old.rows old.who bytes at ≡ Err f)
-    ⊎ ((o : Op) × (next : ℕ) × (step_at schema old.rows old.who bytes at ≡ Ok (Do o, next)) × (f ≡ NoItem (at + 1)) × (finds (plain_edit o) (body_of old.holder) ≡ false))
+    ⊎ ((o : Op) × (next : ℕ) × (step_at schema old.rows old.who bytes at ≡ Ok (Do o, next)) × (f ≡ NoItem (at + 1)) × (finds (plain_edit o) old.holder ≡ false))
 
 -- the open rows are, closed and freed, what bytes are decoded to
 pub record Led (schema : Schema) (rows : List RowEntry) (bytes : List ℕ) (run : Run) : Type 0 where

@@ -2,12 +2,16 @@
 #![tactic(auto)]
 
 mod decoder;
+mod draft;
+mod drafts;
+mod open_row;
 mod reading;
 mod run;
 #[cfg(test)]
 mod tests;
 #[cfg(test)]
 mod trial;
+mod whole_row;
 
 pub use decoder::Decoder;
 pub use wire_model::OpFault;

@@ -10,8 +10,8 @@ ghost use Rattle.op_reader.specs.Known.{Reads, is_holder};
 ghost use Rattle.patch_decoder.specs.Decoders.{AreKnown, Decodes};
 ghost use Rattle.patch_decoder.specs.Runs.{Opens, TakesStep, Steps, Leads, closed_rows};
 
+use crate::drafts::Drafts;
 use crate::run::Run;
-use canon_patch::apply::{rows_of, tree_of};
 use lists::Memory;
 use op_reader::read_op_on;
 use plain_rows::{Rows, freed_of};
@@ -49,7 +49,7 @@ fn started(alloc: Global, rows: &Rows) -> Result<Run, Memory>
     ensures opens { IfOk result (λ run. Opens rows.now 0 run) }
     ensures rises { RisesFrom number_of 0 rows.now }
 {
-    Run::open(alloc, tree_of(alloc, rows)?, RefNum(0))
+    Run::open(alloc, Drafts::of(alloc, rows)?, RefNum(0))
 }
 
 // Does the steps up to the end of the bytes, or up to the first fault.
@@ -132,6 +132,6 @@ fn do_step(
 fn ended(alloc: Global, run: Run) -> Result<Rows, Memory>
     ensures { IfOk result (λ rows. rows ≡ freed (closed_rows run)) }
 {
-    let rows = rows_of(alloc, run.close(alloc)?)?;
+    let rows = run.close(alloc)?.into_rows(alloc)?;
     freed_of(alloc, rows)
 }

@@ -1,0 +1,128 @@
+//! A row that is open: operations are done to it.
+ghost use Rattle.std.specs.Prelude.{◌≡◌, [], false, OnOk, IfOk};
+ghost use Rattle.wire_model.specs.Effect.{Fields, opened, closed, effect, finds};
+ghost use Rattle.wire_ops.specs.PlainEdits.{plain_edit};
+ghost use Rattle.patch_decoder.specs.Drafts.{row_of};
+ghost use Rattle.patch_decoder.specs.Holes.{makes_hole};
+
+use crate::draft::Draft;
+use crate::whole_row::WholeRow;
+use lists::{Memory, Rising};
+use schema_model::TypeNum;
+use state_model::Row;
+use std::alloc::Global;
+use std::marker::Model;
+use wire_model::Op;
+use wire_ops::Holder;
+
+// A row with fewer places is closed at once, which costs less than to keep it open.
+const FEW: usize = 32;
+
+/// A row while operations are done to it.
+#[derive(Drop)]
+pub struct OpenRow {
+    holder: Holder,
+    // Whether there may be holes.
+    holed: bool,
+    // At most as many places as there are, unless there are many.
+    places: usize,
+}
+
+impl Model for OpenRow {
+    ghost use Rattle.std.specs.Prelude.{◌≡◌, false};
+    ghost use Rattle.wire_model.specs.Effect.{Body};
+    ghost use Rattle.wire_ops.specs.Bodies.{body_of};
+    ghost use Rattle.patch_decoder.specs.Holes.{IsWhole};
+
+    ghost Value = { Body };
+
+    ghost view = { λ r. body_of r.holder };
+
+    ghost invariant = { λ r. r.holed ≡ false → IsWhole (body_of r.holder) };
+}
+
+impl OpenRow {
+    /// An instance of the first class, without fields.
+    pub fn first(alloc: Global) -> OpenRow
+        ensures { result ≡ Fields 0 [] }
+    {
+        OpenRow {
+            holder: Holder::Fields(TypeNum(0), Rising::new(alloc)),
+            holed: false,
+            places: 0,
+        }
+    }
+
+    /// Opens a row.
+    pub fn open(alloc: Global, draft: Draft) -> Result<OpenRow, Memory>
+        ensures { IfOk result (λ r. r ≡ opened (row_of draft)) }
+    {
+        match draft {
+            Draft::Kept(row) => OpenRow::open_kept(alloc, row),
+            Draft::Resting(rest) => Ok(OpenRow {
+                holder: Box::into_inner(rest).into_holder(),
+                holed: false,
+                places: FEW,
+            }),
+        }
+    }
+
+    // Opens a row that is kept.
+    fn open_kept(alloc: Global, row: Row) -> Result<OpenRow, Memory>
+        ensures { IfOk result (λ r. r ≡ opened row) }
+    {
+        let places = places_of(&row);
+        let holder = Holder::open(alloc, row)?;
+        Ok(OpenRow {
+            holder,
+            holed: false,
+            places,
+        })
+    }
+
+    /// The item or the position of an operation is there, where the operation asks for it.
+    pub fn finds(&self, op: &Op) -> bool
+        ensures { result ≡ finds (plain_edit op.now) self.now }
+    {
+        self.holder.finds(op)
+    }
+
+    /// Does an operation. After an `Err` the row is any.
+    pub fn apply(&mut self, alloc: Global, op: &Op) -> Result<(), Memory>
+        ensures { OnOk result (self.new ≡ effect (plain_edit op.now) self.old) }
+    {
+        let holed = self.holed || makes_hole(op);
+        self.holed = true;
+        self.places = self.places.saturating_add(1);
+        self.holder.apply(alloc, op)?;
+        self.holed = holed;
+        Ok(())
+    }
+
+    /// Closes it. Where it has many places and no holes, it stays ready to be opened again.
+    pub fn shut(self, alloc: Global) -> Result<Draft, Memory>
+        ensures { IfOk result (λ draft. row_of draft ≡ closed self) }
+    {
+        if self.holed || self.places < FEW {
+            return Ok(Draft::Kept(self.holder.close(alloc)?));
+        }
+        Ok(Draft::Resting(Box::new(alloc, WholeRow::of(self.holder))?))
+    }
+}
+
+// An operation may make a hole.
+fn makes_hole(op: &Op) -> bool
+    ensures { result ≡ makes_hole (plain_edit op.now) }
+{
+    matches!(op, Op::Delete(_) | Op::DeleteByRef(_))
+}
+
+// How many items a collection has.
+fn places_of(row: &Row) -> usize {
+    match row {
+        Row::Struct(_, _) => 0,
+        Row::Map(_, items) => items.len(),
+        Row::Array(_, values) => values.len(),
+        Row::Set(_, items) => items.len(),
+    }
+}
