@@ -1,0 +1,2 @@
+pub mod SettledFrames
+pub mod Ticks

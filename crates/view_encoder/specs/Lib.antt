@@ -1,0 +1,1 @@
+pub use Rattle.view_counts.specs.Settled

@@ -1,0 +1,10 @@
+//! The state bytes of a client: what it is sent at a tick, and its full state.
+#![tactic(auto)]
+
+pub mod frame;
+#[cfg(test)]
+mod tests;
+#[cfg(test)]
+mod trial;
+
+pub use frame::{encode_full, encode_view};
