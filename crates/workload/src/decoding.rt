@@ -1,6 +1,6 @@
 //! The kernels over state bytes.
 use crate::fault::WorkFault;
-use crate::frames::{full_state, patch};
+use crate::frames::{full_state, patch, turns};
 use crate::schema::players_schema;
 use crate::sums::{sum_of_fields, sum_of_rows};
 use patch_decoder::Decoder;
@@ -16,6 +16,7 @@ const PLAYERS: u32 = 10_000;
 pub enum FrameKernel {
     Full,
     Patch,
+    Turns,
 }
 
 impl FrameKernel {
@@ -24,15 +25,17 @@ impl FrameKernel {
         match name {
             "decode_full" => Some(FrameKernel::Full),
             "decode_patch" => Some(FrameKernel::Patch),
+            "decode_turns" => Some(FrameKernel::Turns),
             _ => None,
         }
     }
 
-    /// Does its work over so many players, or over patches of so many changes, and sums up what it gave.
+    /// Does its work over so many players, turns or changes, and sums up what it gave.
     pub fn work(self, alloc: Global, size: u32) -> Result<u64, WorkFault> {
         match self {
             FrameKernel::Full => decode_full(alloc, size),
             FrameKernel::Patch => decode_patches(alloc, size),
+            FrameKernel::Turns => decode_turns(alloc, size),
         }
     }
 }
@@ -56,4 +59,11 @@ fn decode_patches(alloc: Global, changes: u32) -> Result<u64, WorkFault> {
         decoder.patch(&patch(alloc, changes, number)?)?;
     }
     Ok(sum_of_fields(&decoder.rows()?))
+}
+
+fn decode_turns(alloc: Global, players: u32) -> Result<u64, WorkFault> {
+    let mut decoder = decoder(alloc)?;
+    decoder.full(&full_state(alloc, players)?)?;
+    decoder.patch(&turns(alloc, players)?)?;
+    Ok(sum_of_rows(&decoder.rows()?))
 }

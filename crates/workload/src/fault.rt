@@ -3,6 +3,7 @@ use lists::Memory;
 use patch_decoder::OpFault;
 use state_model::TableFault;
 use thiserror::Error;
+use view_members::MemberFault;
 
 /// Why work gives no sum.
 #[derive(Clone, Copy, Debug, PartialEq, Eq, Error)]
@@ -13,6 +14,9 @@ pub enum WorkFault {
     /// State bytes were refused.
     #[error("not decoded: {0}")]
     Undecoded(OpFault),
+    /// A view has too many members.
+    #[error("the view is full")]
+    ViewFull,
     #[error("out of memory")]
     Memory,
 }
@@ -37,6 +41,15 @@ impl From<OpFault> for WorkFault {
         match fault {
             OpFault::Memory => WorkFault::Memory,
             _ => WorkFault::Undecoded(fault),
+        }
+    }
+}
+
+impl From<MemberFault> for WorkFault {
+    fn from(fault: MemberFault) -> Self {
+        match fault {
+            MemberFault::Memory => WorkFault::Memory,
+            MemberFault::ViewFull => WorkFault::ViewFull,
         }
     }
 }

@@ -98,3 +98,13 @@ pub fn patch(alloc: Global, changes: u32, number: u32) -> Result<Vec<u8>, Memory
     }
     Ok(out)
 }
+
+/// A patch that goes from the map of the players to the root, and back, so many times.
+pub fn turns(alloc: Global, count: u32) -> Result<Vec<u8>, Memory> {
+    let mut out = Vec::new(alloc);
+    for _ in 0..count {
+        turn(&mut out, 1)?;
+        turn(&mut out, 0)?;
+    }
+    Ok(out)
+}

@@ -5,6 +5,7 @@ use crate::commands::CommandKernel;
 use crate::decoding::FrameKernel;
 use crate::fault::WorkFault;
 use crate::row_kernel::RowKernel;
+use crate::views::ViewKernel;
 use std::alloc::Global;
 
 /// What is measured.
@@ -13,6 +14,7 @@ pub enum Kernel {
     Rows(RowKernel),
     Commands(CommandKernel),
     Frames(FrameKernel),
+    Views(ViewKernel),
 }
 
 impl Kernel {
@@ -24,12 +26,16 @@ impl Kernel {
         if let Some(kernel) = CommandKernel::named(name) {
             return Some(Kernel::Commands(kernel));
         }
-        Some(Kernel::Frames(FrameKernel::named(name)?))
+        if let Some(kernel) = FrameKernel::named(name) {
+            return Some(Kernel::Frames(kernel));
+        }
+        Some(Kernel::Views(ViewKernel::named(name)?))
     }
 }
 
 /// Does the kernel's work of a size, and sums up what it gave. The size is one of rows, where a player has two; of
-/// classes; of what the commands put in and take out; or of players or changes in frames.
+/// classes; of what the commands put in and take out; or of players or changes in frames; or of things that are
+/// watched.
 pub fn work(alloc: Global, kernel: Kernel, size: u32) -> Result<u64, WorkFault>
     requires { size ≤ 2 ^ 24 }
 {
@@ -37,6 +43,7 @@ pub fn work(alloc: Global, kernel: Kernel, size: u32) -> Result<u64, WorkFault>
         Kernel::Rows(kernel) => Ok(kernel.work(alloc, size)?),
         Kernel::Commands(kernel) => kernel.work(alloc, size),
         Kernel::Frames(kernel) => kernel.work(alloc, size),
+        Kernel::Views(kernel) => kernel.work(alloc, size),
     }
 }
 

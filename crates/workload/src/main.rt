@@ -17,6 +17,8 @@ mod schema;
 mod sums;
 #[cfg(test)]
 mod tests;
+mod views;
+mod watching;
 
 use fault::WorkFault;
 use kernel::{Kernel, work_often};
@@ -68,7 +70,8 @@ fn main(rt: HostRuntime) -> ExitCode {
             Ok(()) => ExitCode::SUCCESS,
             Err(_) => ExitCode::from(5),
         },
-        Err(WorkFault::Refused(_) | WorkFault::Undecoded(_)) => ExitCode::from(3),
+        Err(WorkFault::Refused(_) | WorkFault::Undecoded(_) | WorkFault::ViewFull) =>
+            ExitCode::from(3),
         Err(WorkFault::Memory) => ExitCode::from(7),
     }
 }

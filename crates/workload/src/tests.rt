@@ -1,7 +1,8 @@
 use crate::kernel::{Kernel, work_often};
 use std::test::Fail;
 
-// Sums over three players or six of what else there is, worked out by hand; that of the random numbers was worked out apart.
+// Sums over three players or six of what else there is, worked out by hand; those of the random numbers
+// and of the views were worked out apart.
 #[test]
 fn sums_up_what_small_sizes_give(rt: HostRuntime) -> Result<(), Fail> {
     let sums = [
@@ -22,6 +23,9 @@ fn sums_up_what_small_sizes_give(rt: HostRuntime) -> Result<(), Fail> {
         ("held_swept", 12),
         ("decode_full", 415),
         ("decode_patch", 1999999983988),
+        ("decode_turns", 415),
+        ("views_few", 423),
+        ("views_many", 3503),
     ];
     for (name, sum) in sums {
         let Some(kernel) = Kernel::named(name) else {
