@@ -1,4 +1,5 @@
 mod IndexLaws
+mod KeyLaws
 mod ItemLaws
 mod PlaceLaws
 mod SlotLaws

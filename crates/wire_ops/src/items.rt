@@ -1,5 +1,5 @@
 ghost use Rattle.std.specs.Prelude.{◌≡◌, ◌==◌, ◌||◌, not, filter, [], OnOk, IfOk, is_some};
-ghost use Rattle.trees.specs.Texts.{text_number};
+ghost use Rattle.wire_ops.specs.Keys.{key_number};
 ghost use Rattle.std.specs.List.{list_any};
 ghost use Rattle.std.specs.Str.{bytes_eq};
 ghost use Rattle.lists.specs.Rising as rising;
@@ -27,7 +27,7 @@ pub struct Items {
 
 impl Model for Items {
     ghost use Rattle.std.specs.Prelude.{List, IfSome};
-    ghost use Rattle.trees.specs.Texts.{text_number};
+    ghost use Rattle.wire_ops.specs.Keys.{key_number};
     ghost use Rattle.state_model.specs.declared.row.MapItem.{MapItem};
     ghost use Rattle.wire_ops.specs.Index.{IsIndex};
 
@@ -35,7 +35,7 @@ impl Model for Items {
 
     ghost view = { λ s. s.items };
 
-    ghost invariant = { λ s. IfSome s.index (λ i. IsIndex s.items (text_number i.numbers)) };
+    ghost invariant = { λ s. IfSome s.index (λ i. IsIndex s.items (key_number i)) };
 }
 
 impl Items {
@@ -152,9 +152,9 @@ fn put_by_index(
     key: &Text,
     value: Value,
 ) -> Result<(), Memory>
-    requires { IsIndex items.old (text_number index.old.numbers) }
+    requires { IsIndex items.old (key_number index.old) }
     ensures items { OnOk result (items.new ≡ put_named number key.now value items.old) }
-    ensures index { OnOk result (IsIndex items.new (text_number index.new.numbers)) }
+    ensures index { OnOk result (IsIndex items.new (key_number index.new)) }
 {
     let replaced = items.put(MapItem {
         number,

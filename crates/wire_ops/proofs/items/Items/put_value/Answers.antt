@@ -1,5 +1,5 @@
 use Rattle.std.proofs.Common.{◌∙◌, sym}
-use Rattle.trees.specs.Texts.{text_number}
+use Rattle.wire_ops.specs.Keys.{key_number}
 use Rattle.std.proofs.lemmas.Option.{IfSome_then}
 use Rattle.lists.proofs.RisingLaws.{remove_missing}
 use Rattle.wire_ops.proofs.IndexLaws.{IsIndex-again}
@@ -27,7 +27,7 @@ invariant_of-self-2 c =
           let found = sym c.remove.ensures.found ∙ w.in-Some.is in
           rw (c.take-index.ensures.value, w.self-inside-is, w.in_ok-put.ensures.ok, c.remove.ensures.rest)
           (IfSome_then c.self.inside.index c.self.invariant (λ i index.
-          IsIndex-again c.args.number c.args.value w.in-Some.old c.self.inside.items (text_number i.numbers) index found))
+          IsIndex-again c.args.number c.args.value w.in-Some.old c.self.inside.items (key_number i) index found))
       | in_default w ↦
           let missing = sym c.remove.ensures.found ∙ w.in_default.is in
           let unchanged = remove_missing number_of c.args.number c.self.inside.items missing in
