@@ -12,7 +12,7 @@ use Rattle.wire_model.specs.Effect.{Body, Fields, Items, Slots, Elements, opened
 use Rattle.wire_laws.proofs.SlotRuns.{closed_slots-map}
 use Rattle.wire_ops.specs.Bodies.{edited_slots}
 use Rattle.wire_ops.proofs.EffectLaws.{effect_fields, effect_items, effect_slots, effect_elements}
-use Rattle.patch_decoder.specs.Holes.{IsWhole, makes_hole}
+use Rattle.patch_decoder.specs.Holes.{IsWhole, makes_hole, may_hole}
 
 -- a row that is opened has no holes
 pub whole_opened : (r : Row) → IsWhole (opened r)
@@ -91,7 +91,8 @@ full_edited (DeleteByRef n) ss none f = absurd (cc)
 
 -- ---- open rows
 
-pub whole_done : (e : Edit) (body : Body) → makes_hole e ≡ false → IsWhole body → IsWhole (effect e body)
+-- an operation that may make no hole leaves none
+pub whole_done : (e : Edit) (body : Body) → may_hole body e ≡ false → IsWhole body → IsWhole (effect e body)
 whole_done e (Fields class fields) none whole = subst IsWhole (sym (effect_fields e class fields)) refl
 whole_done e (Items home items) none whole = subst IsWhole (sym (effect_items e home items)) refl
 whole_done e (Slots home ss) none whole =

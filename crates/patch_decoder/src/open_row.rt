@@ -3,7 +3,8 @@ ghost use Rattle.std.specs.Prelude.{◌≡◌, [], false, OnOk, IfOk};
 ghost use Rattle.wire_model.specs.Effect.{Fields, opened, closed, effect, finds};
 ghost use Rattle.wire_ops.specs.PlainEdits.{plain_edit};
 ghost use Rattle.patch_decoder.specs.Drafts.{row_of};
-ghost use Rattle.patch_decoder.specs.Holes.{makes_hole};
+ghost use Rattle.wire_ops.specs.Bodies.{body_of};
+ghost use Rattle.patch_decoder.specs.Holes.{makes_hole, may_hole};
 
 use crate::draft::Draft;
 use crate::whole_row::WholeRow;
@@ -22,7 +23,7 @@ const FEW: usize = 32;
 #[derive(Drop)]
 pub struct OpenRow {
     holder: Holder,
-    // Whether there may be holes.
+    // Whether there may be holes, which only arrays have.
     holed: bool,
     // At most as many places as there are, unless there are many.
     places: usize,
@@ -91,7 +92,7 @@ impl OpenRow {
     pub fn apply(&mut self, alloc: Global, op: &Op) -> Result<(), Memory>
         ensures { OnOk result (self.new ≡ effect (plain_edit op.now) self.old) }
     {
-        let holed = self.holed || makes_hole(op);
+        let holed = self.holed || may_hole(&self.holder, op);
         self.holed = true;
         self.places = self.places.saturating_add(1);
         self.holder.apply(alloc, op)?;
@@ -110,7 +111,17 @@ impl OpenRow {
     }
 }
 
-// An operation may make a hole.
+// An operation may make a hole in a holder: only the slots of an array can be holes.
+fn may_hole(holder: &Holder, op: &Op) -> bool
+    ensures { result ≡ may_hole (body_of holder.now) (plain_edit op.now) }
+{
+    match holder {
+        Holder::Slots(_, _) => makes_hole(op),
+        Holder::Fields(_, _) | Holder::Items(_, _) | Holder::Elements(_, _) => false,
+    }
+}
+
+// An operation makes a hole of a slot, where it finds one.
 fn makes_hole(op: &Op) -> bool
     ensures { result ≡ makes_hole (plain_edit op.now) }
 {

@@ -1,6 +1,6 @@
 //! The kernels over state bytes.
 use crate::fault::WorkFault;
-use crate::frames::{full_state, patch, turns};
+use crate::frames::{deletes, full_state, patch, turns};
 use crate::schema::players_schema;
 use crate::sums::{sum_of_fields, sum_of_rows};
 use patch_decoder::Decoder;
@@ -17,6 +17,7 @@ pub enum FrameKernel {
     Full,
     Patch,
     Turns,
+    Deletes,
 }
 
 impl FrameKernel {
@@ -26,16 +27,18 @@ impl FrameKernel {
             "decode_full" => Some(FrameKernel::Full),
             "decode_patch" => Some(FrameKernel::Patch),
             "decode_turns" => Some(FrameKernel::Turns),
+            "decode_deletes" => Some(FrameKernel::Deletes),
             _ => None,
         }
     }
 
-    /// Does its work over so many players, turns or changes, and sums up what it gave.
+    /// Does its work over so many players, changes, turns or deletes, and sums up what it gave.
     pub fn work(self, alloc: Global, size: u32) -> Result<u64, WorkFault> {
         match self {
             FrameKernel::Full => decode_full(alloc, size),
             FrameKernel::Patch => decode_patches(alloc, size),
             FrameKernel::Turns => decode_turns(alloc, size),
+            FrameKernel::Deletes => decode_deletes(alloc, size),
         }
     }
 }
@@ -65,5 +68,12 @@ fn decode_turns(alloc: Global, players: u32) -> Result<u64, WorkFault> {
     let mut decoder = decoder(alloc)?;
     decoder.full(&full_state(alloc, players)?)?;
     decoder.patch(&turns(alloc, players)?)?;
+    Ok(sum_of_rows(&decoder.rows()?))
+}
+
+fn decode_deletes(alloc: Global, players: u32) -> Result<u64, WorkFault> {
+    let mut decoder = decoder(alloc)?;
+    decoder.full(&full_state(alloc, players)?)?;
+    decoder.patch(&deletes(alloc, players)?)?;
     Ok(sum_of_rows(&decoder.rows()?))
 }

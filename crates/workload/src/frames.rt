@@ -14,6 +14,8 @@ const ADD: u8 = 128;
 
 const REPLACE: u8 = 0;
 
+const DELETE: u8 = 64;
+
 const CLEAR: u8 = 10;
 
 const PLAYER: u8 = 1;
@@ -95,6 +97,17 @@ pub fn patch(alloc: Global, changes: u32, number: u32) -> Result<Vec<u8>, Memory
     for change in 0..changes {
         turn(&mut out, row_of(change.wrapping_mul(10)))?;
         code(&mut out, REPLACE, number)?;
+    }
+    Ok(out)
+}
+
+/// A patch that takes so many players of even numbers out of their map, and goes to the root after each of them.
+pub fn deletes(alloc: Global, count: u32) -> Result<Vec<u8>, Memory> {
+    let mut out = Vec::new(alloc);
+    for number in 0..count {
+        turn(&mut out, 1)?;
+        code(&mut out, DELETE, number.wrapping_mul(2))?;
+        turn(&mut out, 0)?;
     }
     Ok(out)
 }

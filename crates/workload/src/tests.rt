@@ -24,6 +24,7 @@ fn sums_up_what_small_sizes_give(rt: HostRuntime) -> Result<(), Fail> {
         ("decode_full", 415),
         ("decode_patch", 1999999983988),
         ("decode_turns", 415),
+        ("decode_deletes", 235),
         ("views_few", 423),
         ("views_many", 3503),
     ];

@@ -1,7 +1,7 @@
 use Rattle.std.proofs.Common.{◌≡◌, false, sym, subst, ◌∙◌}
 use Rattle.wire_ops.specs.PlainEdits.{plain_edit}
 use Rattle.wire_ops.specs.Bodies.{body_of}
-use Rattle.patch_decoder.specs.Holes.{IsWhole, makes_hole}
+use Rattle.patch_decoder.specs.Holes.{IsWhole, may_hole}
 use Rattle.patch_decoder.proofs.Holes.{whole_done}
 use Rattle.patch_decoder.proofs.open_row.OpenRow.apply.Goals as goal
 use Rattle.patch_decoder.proofs.open_row.OpenRow.apply.Goals.{then-self, else-self}
@@ -12,6 +12,7 @@ invariant_of-self-2 c =
       | then-self w ↦ absurd (cc (none, w.holed-is))
       | else-self w ↦
           let e = plain_edit c.args.op.now in
-          let makes_none : makes_hole e ≡ false = sym w.makes_hole-holed.ensures ∙ (sym w.holed-is ∙ none) in
-          subst IsWhole (sym c.in_ok-apply.ensures) (whole_done e (body_of c.self.inside.holder) makes_none (c.self.invariant w.if-self.false))
+          let body = body_of c.self.inside.holder in
+          let makes_none : may_hole body e ≡ false = sym w.may_hole-holed.ensures ∙ (sym w.holed-is ∙ none) in
+          subst IsWhole (sym c.in_ok-apply.ensures) (whole_done e body makes_none (c.self.invariant w.if-self.false))
     ]
