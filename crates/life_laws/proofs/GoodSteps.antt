@@ -23,7 +23,7 @@ use Rattle.frame_model.specs.Frames.{server_bytes}
 use Rattle.frame_model.specs.declared.frame.ServerFrame.TheVariants as server
 use Rattle.room_model.specs.declared.event.Act.TheVariants as act
 use Rattle.room_model.specs.declared.event.RoomEvent.TheVariants as happened
-use Rattle.room_model.specs.Room.{join_frame, enter_outs}
+use Rattle.room_model.specs.Room.{join_frame}
 use Rattle.hub_model.specs.declared.event.HubEvent.{HubEvent}
 use Rattle.hub_model.specs.declared.event.HubEvent.TheVariants as event
 use Rattle.hub_model.specs.Hub.{moment_of}
@@ -37,7 +37,7 @@ use Rattle.room_core.specs.declared.place.Phase.TheVariants.{Empty, Reserved, Jo
 use Rattle.room_core.specs.Steps.{ticked_phase, put_number, phase_outs}
 use Rattle.room_core.specs.Takes.{is_number_put}
 use Rattle.room_core.specs.Values.{patch_of}
-use Rattle.room_core.proofs.RoomSteps.{tick_room, put_room, enter_room, frame_mine}
+use Rattle.room_core.proofs.RoomSteps.{tick_room, put_room, enter_both, frame_both}
 use Rattle.life_laws.specs.Courses.{is_turn}
 use Rattle.life_laws.proofs.Points.{Setting, Point, Good, Decodes, room_in, own_conn, conns_in, criteria_of, run_in, event_in, is_joined, progress_in}
 use Rattle.life_laws.proofs.RunSteps.{point, own_reservation, at_step, room_event, tick_step, tick_gives, tick_recorded, tick_sendings, sending_of, command_step, opening, opening_here, opening_step, acknowledgement, acknowledgement_here, acknowledgement_step, reply_in}
@@ -305,8 +305,8 @@ opened_step s p fresh g is = (after_opening p fresh, by_phase p.phase is, good p
     by_phase Reserved is =
         room_event s (point p.now Reserved p.rows p.shared p.token p.lapse p.entries p.outputs) (own_conn s ∷ []) (opening s fresh) (happened.Enter s.session None fresh)
         (opening_here s p.now p.rows p.shared p.token p.lapse fresh)
-        ∙ (ap (λ room. event_in s (point p.now Reserved p.rows p.shared p.token p.lapse p.entries p.outputs) (own_conn s ∷ []) (opening s fresh) (room, enter_outs s.session fresh))
-        (enter_room s.schema s.def (criteria_of s) p.rows p.shared Reserved s.session p.token s.session p.lapse fresh (own_reservation s p.lapse))
+        ∙ (ap (event_in s (point p.now Reserved p.rows p.shared p.token p.lapse p.entries p.outputs) (own_conn s ∷ []) (opening s fresh))
+        (enter_both s.schema s.def (criteria_of s) p.rows p.shared Reserved s.session p.token s.session p.lapse fresh (own_reservation s p.lapse))
         ∙ opening_step s p.now p.rows p.shared p.token p.lapse p.entries p.outputs fresh)
     by_phase Empty is = cc
     by_phase Joining is = cc
@@ -341,8 +341,8 @@ acknowledged_step s p g is = (after_acknowledgement p, by_phase p.phase is, good
         let room = room_in s Joining p.rows p.shared p.token p.lapse in
         room_event s (point p.now Joining p.rows p.shared p.token p.lapse p.entries p.outputs) (own_conn s ∷ []) (acknowledgement s) (happened.Frame s.session (10 ∷ []))
         (acknowledgement_here s p.now room)
-        ∙ (ap (λ r. event_in s (point p.now Joining p.rows p.shared p.token p.lapse p.entries p.outputs) (own_conn s ∷ []) (acknowledgement s) (r, []))
-        (frame_mine s.schema s.def (criteria_of s) p.rows p.shared Joining s.session s.session p.token p.lapse refl)
+        ∙ (ap (event_in s (point p.now Joining p.rows p.shared p.token p.lapse p.entries p.outputs) (own_conn s ∷ []) (acknowledgement s))
+        (frame_both s.schema s.def (criteria_of s) p.rows p.shared Joining s.session s.session p.token (10 ∷ []) p.lapse refl refl)
         ∙ acknowledgement_step s p.now p.rows p.shared p.token p.lapse p.entries p.outputs)
     by_phase Empty is = cc
     by_phase Reserved is = cc

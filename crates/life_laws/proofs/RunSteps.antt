@@ -12,7 +12,7 @@ use Rattle.room_model.specs.declared.event.RoomEvent.{RoomEvent}
 use Rattle.room_model.specs.declared.event.RoomEvent.TheVariants as happened
 use Rattle.room_model.specs.declared.event.RoomOut.{RoomOut}
 use Rattle.room_model.specs.declared.event.RoomOut.TheVariants as out
-use Rattle.room_model.specs.Room.{RoomValue, room_step, join_frame, enter_outs}
+use Rattle.room_model.specs.Room.{RoomValue, room_step, join_frame}
 use Rattle.room_model.specs.Seats.{has_reservation}
 use Rattle.hub_model.specs.declared.event.HubEvent.{HubEvent}
 use Rattle.hub_model.specs.declared.event.HubEvent.TheVariants as event
@@ -22,7 +22,7 @@ use Rattle.life_model.specs.Entries.{Entry, Asked, Opened, Framed, Ticked, Sendi
 use Rattle.life_model.specs.Lives.{Run, run_step, run_with}
 use Rattle.room_core.specs.declared.place.Phase.{Phase}
 use Rattle.room_core.specs.declared.place.Phase.TheVariants.{Empty, Reserved, Joining, Due, Live}
-use Rattle.room_core.specs.Steps.{ticked_phase, sent_to}
+use Rattle.room_core.specs.Steps.{enter_outs, ticked_phase, sent_to}
 use Rattle.room_core.specs.Values.{reserved_seats}
 use Rattle.life_laws.proofs.Points.{Setting, Point, room_in, own_conn, conns_in, hub_with, hub_in, run_in, event_in, is_joined}
 

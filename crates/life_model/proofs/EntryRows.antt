@@ -21,7 +21,8 @@ use Rattle.room_model.specs.declared.event.Stage.TheVariants as stage
 use Rattle.room_model.specs.declared.refusal.Refusal.TheVariants as refusal
 use Rattle.room_model.specs.Seats.{Seats, reserved_seat, taken_seat}
 use Rattle.room_model.specs.Ledger.{kept_seat}
-use Rattle.room_model.specs.Room.{RoomValue, Session}
+use Rattle.room_model.specs.Sessions.{Session}
+use Rattle.room_model.specs.Room.{RoomValue}
 use Rattle.hub_model.specs.declared.event.HubEvent.{HubEvent}
 use Rattle.hub_model.specs.declared.event.HubEvent.TheVariants as event
 use Rattle.hub_model.specs.declared.event.HubOut.{HubOut}

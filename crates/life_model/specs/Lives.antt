@@ -1,6 +1,6 @@
 -- The lives of a run: each reservation with all that follows up to its end, its record, and what its connections are given. Ours.
 use Rattle.std.specs.Prelude.{ℕ, Bool, true, false, not, ◌&&◌, ◌||◌, List, [], ◌∷◌, ◌++◌, map, Option, Some, None, is_some, option_and_then, if◌then◌else◌, ◌==◌}
-use Rattle.std.specs.List.{find, flat_map, fold, list_any}
+use Rattle.std.specs.List.{flat_map, fold, list_any}
 use Rattle.std.specs.Option.{option_map, option_map_or}
 use Rattle.std.specs.Str.{bytes_eq}
 use Rattle.schema_model.specs.Classes.{Schema}
@@ -15,7 +15,8 @@ use Rattle.room_model.specs.declared.event.Act.TheVariants as act
 use Rattle.room_model.specs.declared.event.Stage.{Stage}
 use Rattle.room_model.specs.declared.event.Stage.TheVariants as stage
 use Rattle.room_model.specs.Seats.{in_use}
-use Rattle.room_model.specs.Room.{RoomValue, Session}
+use Rattle.room_model.specs.Sessions.{Session, session_of as session_named}
+use Rattle.room_model.specs.Room.{RoomValue}
 use Rattle.hub_model.specs.declared.event.HubEvent.{HubEvent}
 use Rattle.hub_model.specs.declared.event.HubEvent.TheVariants as event
 use Rattle.hub_model.specs.declared.event.HubOut.{HubOut}
@@ -38,7 +39,7 @@ pub record Life : Type 0 where
 
 -- the session of a room
 abbrev pub session_of : List ℕ → RoomValue → Option Session
-session_of session r = find (λ (s : Session). bytes_eq s.id session) r.sessions
+session_of session r = session_named r.sessions session
 
 -- the session of the room of an id
 abbrev pub session_in : HubValue → List ℕ → List ℕ → Option Session

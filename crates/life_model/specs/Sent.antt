@@ -1,6 +1,6 @@
 -- What a life is sent: a machine that knows the schema and the life's record, and nothing else.
 -- The frames are after Colyseus 0.16; the moment of the full state is ours.
-use Rattle.std.specs.Prelude.{ℕ, Bool, true, false, List, [], ◌∷◌, ◌++◌, length, map, pos, nat_lt, if◌then◌else◌, Result, Ok, Err, codes}
+use Rattle.std.specs.Prelude.{ℕ, Bool, true, false, List, [], ◌∷◌, ◌++◌, length, map, nat_lt, if◌then◌else◌, Result, Ok, Err}
 use Rattle.std.specs.List.{fold}
 use Rattle.schema_model.specs.Classes.{Schema}
 use Rattle.state_model.specs.declared.row.RowEntry.{RowEntry}
@@ -11,7 +11,7 @@ use Rattle.frame_model.specs.declared.frame.ServerFrame.TheVariants as server
 use Rattle.frame_model.specs.declared.frame.ClientFrame.{ClientFrame}
 use Rattle.frame_model.specs.declared.frame.ClientFrame.TheVariants as client
 use Rattle.frame_model.specs.declared.fault.FrameFault.{FrameFault}
-use Rattle.room_model.specs.Room.{join_frame}
+use Rattle.room_model.specs.Room.{join_frame, unread_frame}
 use Rattle.life_model.specs.Entries.{Entry, Record, Asked, Opened, Framed, Told, Ticked, Dropped, Kicked, Lapsed, Sending, Frame, Closing}
 
 -- how far a life is, with the messages that wait for its full state, or the rows of the last tick that it saw
@@ -31,10 +31,6 @@ sent_opened Kept token = (Joining [], Frame (join_frame token) ∷ [])
 sent_opened s token = (s, [])
 
 -- ---- a frame of the client
-
--- the answer to a frame that can't be read
-abbrev pub unread_frame : List ℕ
-unread_frame = server_bytes (server.Fault (pos 4217) (codes "invalid payload"))
 
 -- the acknowledgement leads on from joining, and a leave closes with 4000
 abbrev pub sent_read : Standing → Result ClientFrame FrameFault → Standing × List Sending

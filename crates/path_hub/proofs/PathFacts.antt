@@ -12,7 +12,7 @@ use Rattle.schema_model.specs.declared.class.FieldDecl.{FieldDecl}
 use Rattle.plain_rows.specs.Numbers.{is_number_schema}
 use Rattle.text_model.specs.Paths.{path_schema, number_field, event_of}
 use Rattle.text_model.specs.declared.path.FirstPath.{FirstPath}
-use Rattle.path_hub.specs.PathHub.{is_playable, hub_of, Fits}
+use Rattle.path_hub.specs.PathHub.{is_playable, hub_of, Waits, Fits}
 use Rattle.hub_model.specs.Hub.{hub_step, asked, asked_def, with_rooms}
 use Rattle.hub_model.specs.Replies.{reply_text, join_or_create_target}
 use Rattle.hub_model.specs.declared.event.HubOut.TheVariants as out
@@ -107,4 +107,9 @@ pub ask_fits : (p : FirstPath) (schema : Schema) (now : ℕ) (room : Option Held
 ask_fits p schema now (Some h) from held none same is_held fits = absurd (cc)
 ask_fits p schema now None (Some c) held none same is_held fits = absurd fits
 ask_fits p schema now None None held none same is_held fits =
-    (ap (λ (r : RoomValue). r.schema) is_held ∙ same, (now + p.def.seat, ap (λ (r : RoomValue). r.seats.reserved) is_held))
+    let waits : Waits p.session held.room.seats = record {
+      lapse = now + p.def.seat;
+      reserved = ap (λ (r : RoomValue). r.seats.reserved) is_held;
+      no_seats = ap (λ (r : RoomValue). r.seats.seats) is_held;
+      none_kept = ap (λ (r : RoomValue). r.seats.kept) is_held;
+    } in (ap (λ (r : RoomValue). r.schema) is_held ∙ same, waits)

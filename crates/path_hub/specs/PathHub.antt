@@ -7,6 +7,7 @@ use Rattle.plain_rows.specs.Numbers.{is_number_schema}
 use Rattle.std.specs.Option.{option_map}
 use Rattle.std.specs.Prelude.{IsTrue}
 use Rattle.room_model.specs.declared.event.RoomEvent.{RoomEvent}
+use Rattle.room_model.specs.Seats.{Seats}
 use Rattle.room_model.specs.Room.{RoomValue, room_step}
 use Rattle.room_core.specs.Takes.{takes}
 use Rattle.text_model.specs.Marks.{is_id, is_room_name}
@@ -35,12 +36,18 @@ hub_of p now room conn = record {
   conns = conns_of p.room p.session conn;
 }
 
--- the room has the schedule's schema; the session's reservation is its only one, until it was opened
+-- the session's reservation is the only entry of the places
+pub record Waits (session : List ℕ) (seats : Seats) : Type 0 where
+  pub lapse : ℕ
+  pub reserved : seats.reserved ≡ record { session = session; lapse = lapse } ∷ []
+  pub no_seats : seats.seats ≡ []
+  pub none_kept : seats.kept ≡ []
+
+-- the room has the schedule's schema; the session's reservation is its only place in use, until it was opened
 abbrev pub Fits : FirstPath → Option Held → Option ℕ → Type 0
 Fits p None None = ⊤
 Fits p None (Some conn) = ⊥
-Fits p (Some h) None =
-    (h.room.schema ≡ path_schema p) × ((lapse : ℕ) × (h.room.seats.reserved ≡ record { session = p.session; lapse = lapse } ∷ []))
+Fits p (Some h) None = (h.room.schema ≡ path_schema p) × Waits p.session h.room.seats
 Fits p (Some h) (Some conn) = (h.room.schema ≡ path_schema p) × (h.room.seats.reserved ≡ [])
 
 -- the schema is of numbers, the ids and the room's name are ASCII, nothing is filtered by, and a reservation lapses within an hour

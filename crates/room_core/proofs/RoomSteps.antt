@@ -20,15 +20,15 @@ use Rattle.room_model.specs.declared.definition.RoomDef.{RoomDef}
 use Rattle.room_model.specs.declared.event.RoomOut.{RoomOut}
 use Rattle.room_model.specs.declared.event.RoomOut.TheVariants as out
 use Rattle.room_model.specs.declared.event.Stage.TheVariants as stage
-use Rattle.room_model.specs.Room.{RoomValue, after_reserve, after_enter, after_tick, after_answer}
+use Rattle.room_model.specs.Room.{RoomValue, after_reserve, after_enter, after_frame, after_tick, after_answer}
 use Rattle.plain_rows.specs.Numbers.{is_number_schema, AreNumberRows, number_rows, number_count, AreNumbers}
 use Rattle.plain_rows.proofs.NumberViews.{permitted_number_rows, freed_numbers}
 use Rattle.plain_rows.proofs.NumberCommands.{put_accepted, numbers_put}
 use Rattle.room_core.specs.declared.place.Phase.{Phase}
 use Rattle.room_core.specs.declared.place.Phase.TheVariants.{Empty, Reserved, Joining, Due, Live}
-use Rattle.room_core.specs.Steps.{put_number, acknowledged_phase, frame_room, ticked_phase, sent_to, phase_outs}
+use Rattle.room_core.specs.Steps.{enter_outs, put_number, acknowledged_phase, ticked_phase, sent_to, phase_outs}
 use Rattle.room_core.specs.Values.{room_at, session_at, sessions_at, seats_at, taken_seats}
-use Rattle.room_core.specs.Takes.{has_no_session}
+use Rattle.room_core.specs.Takes.{has_no_session, is_acknowledgement}
 use Rattle.room_core.specs.Numbered.{Numbered}
 use Rattle.state_model.specs.declared.row.Row.{Row}
 use Rattle.state_model.specs.declared.row.Row.TheVariants.{Struct}
@@ -47,54 +47,100 @@ reserve_room s d c rows sh Live id token session old lapse h = cc
 
 -- ---- an opening
 
-enter_reserved : (s : Schema) (d : RoomDef) (c : List (List ℕ)) (rows sh : List RowEntry) (id session : List ℕ) (lapse : ℕ) (fresh : List ℕ)
-    → bytes_eq id session ≡ true → id ≡ session
-    → after_enter (room_at Reserved s d c rows sh id fresh lapse) session fresh ≡ room_at Joining s d c rows sh session fresh lapse
-enter_reserved s d c rows sh id session lapse fresh same e = rw (same, e) refl
+-- the room once its reservation was opened, and what it gives
+abbrev entered : Schema → RoomDef → List (List ℕ) → List RowEntry → List RowEntry → List ℕ → ℕ → List ℕ → RoomValue × List RoomOut
+entered s d c rows sh session lapse fresh = (room_at Joining s d c rows sh session fresh lapse, enter_outs session fresh)
+
+enter_own : (s : Schema) (d : RoomDef) (c : List (List ℕ)) (rows sh : List RowEntry) (id token : List ℕ) (lapse : ℕ) (fresh : List ℕ)
+    → after_enter (room_at Reserved s d c rows sh id token lapse) id None fresh ≡ entered s d c rows sh id lapse fresh
+enter_own s d c rows sh id token lapse fresh = rw (bytes_eq_self id, bytes_eq_self id) refl
+
+enter_reserved : (s : Schema) (d : RoomDef) (c : List (List ℕ)) (rows sh : List RowEntry) (id token session : List ℕ) (lapse : ℕ) (fresh : List ℕ) → id ≡ session
+    → after_enter (room_at Reserved s d c rows sh id token lapse) session None fresh ≡ entered s d c rows sh session lapse fresh
+enter_reserved s d c rows sh id token session lapse fresh e =
+    subst (λ x. after_enter (room_at Reserved s d c rows sh id token lapse) x None fresh ≡ entered s d c rows sh x lapse fresh) e (enter_own s d c rows sh id token lapse fresh)
 
 reservation_is : (b : Bool) → (b || false) ≡ true → b ≡ true
 reservation_is true h = refl
 reservation_is false h = h
 
+pub enter_both : (s : Schema) (d : RoomDef) (c : List (List ℕ)) (rows sh : List RowEntry) (phase : Phase) (id token session : List ℕ) (lapse : ℕ) (fresh : List ℕ)
+    → has_reservation (seats_at phase d.max id token lapse) session ≡ true
+    → after_enter (room_at phase s d c rows sh id token lapse) session None fresh ≡ entered s d c rows sh session lapse fresh
+enter_both s d c rows sh Empty id token session lapse fresh h = cc
+enter_both s d c rows sh Reserved id token session lapse fresh h =
+    enter_reserved s d c rows sh id token session lapse fresh (same_bytes id session (reservation_is (bytes_eq id session) h))
+enter_both s d c rows sh Joining id token session lapse fresh h = cc
+enter_both s d c rows sh Due id token session lapse fresh h = cc
+enter_both s d c rows sh Live id token session lapse fresh h = cc
+
 pub enter_room : (s : Schema) (d : RoomDef) (c : List (List ℕ)) (rows sh : List RowEntry) (phase : Phase) (id token session : List ℕ) (lapse : ℕ) (fresh : List ℕ)
     → has_reservation (seats_at phase d.max id token lapse) session ≡ true
-    → after_enter (room_at phase s d c rows sh id token lapse) session fresh ≡ room_at Joining s d c rows sh session fresh lapse
-enter_room s d c rows sh Empty id token session lapse fresh h = cc
-enter_room s d c rows sh Reserved id token session lapse fresh h =
-    let same : bytes_eq id session ≡ true = reservation_is (bytes_eq id session) h in
-    enter_reserved s d c rows sh id session lapse fresh same (same_bytes id session same)
-enter_room s d c rows sh Joining id token session lapse fresh h = cc
-enter_room s d c rows sh Due id token session lapse fresh h = cc
-enter_room s d c rows sh Live id token session lapse fresh h = cc
+    → (after_enter (room_at phase s d c rows sh id token lapse) session None fresh).0 ≡ room_at Joining s d c rows sh session fresh lapse
+enter_room s d c rows sh phase id token session lapse fresh h = ap (λ x. x.0) (enter_both s d c rows sh phase id token session lapse fresh h)
+
+pub enter_gives : (s : Schema) (d : RoomDef) (c : List (List ℕ)) (rows sh : List RowEntry) (phase : Phase) (id token session : List ℕ) (lapse : ℕ) (fresh : List ℕ)
+    → has_reservation (seats_at phase d.max id token lapse) session ≡ true
+    → (after_enter (room_at phase s d c rows sh id token lapse) session None fresh).1 ≡ enter_outs session fresh
+enter_gives s d c rows sh phase id token session lapse fresh h = ap (λ x. x.1) (enter_both s d c rows sh phase id token session lapse fresh h)
 
 -- ---- an acknowledgement
 
+-- the room and no output
+abbrev and_nothing : RoomValue → RoomValue × List RoomOut
+and_nothing r = (r, [])
+
+-- the acknowledgement's byte
+abbrev ack : List ℕ
+ack = 10 ∷ []
+
 frame_own : (s : Schema) (d : RoomDef) (c : List (List ℕ)) (rows sh : List RowEntry) (phase : Phase) (id session token : List ℕ) (lapse : ℕ) → bytes_eq id session ≡ true
-    → frame_room (room_at phase s d c rows sh id token lapse) session ≡ room_at (acknowledged_phase phase) s d c rows sh id token lapse
+    → after_frame (room_at phase s d c rows sh id token lapse) session ack ≡ and_nothing (room_at (acknowledged_phase phase) s d c rows sh id token lapse)
 frame_own s d c rows sh Empty id session token lapse same = refl
 frame_own s d c rows sh Reserved id session token lapse same = rw same refl
 frame_own s d c rows sh Joining id session token lapse same = rw same refl
 frame_own s d c rows sh Due id session token lapse same = rw same refl
 frame_own s d c rows sh Live id session token lapse same = rw same refl
 
-pub frame_other : (s : Schema) (d : RoomDef) (c : List (List ℕ)) (rows sh : List RowEntry) (phase : Phase) (id session token : List ℕ) (lapse : ℕ) → bytes_eq id session ≡ false
-    → frame_room (room_at phase s d c rows sh id token lapse) session ≡ room_at phase s d c rows sh id token lapse
-frame_other s d c rows sh Empty id session token lapse other = refl
-frame_other s d c rows sh Reserved id session token lapse other = rw other refl
-frame_other s d c rows sh Joining id session token lapse other = rw other refl
-frame_other s d c rows sh Due id session token lapse other = rw other refl
-frame_other s d c rows sh Live id session token lapse other = rw other refl
+frame_other : (s : Schema) (d : RoomDef) (c : List (List ℕ)) (rows sh : List RowEntry) (phase : Phase) (id session token bytes : List ℕ) (lapse : ℕ) → bytes_eq id session ≡ false
+    → after_frame (room_at phase s d c rows sh id token lapse) session bytes ≡ and_nothing (room_at phase s d c rows sh id token lapse)
+frame_other s d c rows sh Empty id session token bytes lapse other = refl
+frame_other s d c rows sh Reserved id session token bytes lapse other = rw other refl
+frame_other s d c rows sh Joining id session token bytes lapse other = rw other refl
+frame_other s d c rows sh Due id session token bytes lapse other = rw other refl
+frame_other s d c rows sh Live id session token bytes lapse other = rw other refl
 
--- the room's own session, or another one
-pub frame_mine : (s : Schema) (d : RoomDef) (c : List (List ℕ)) (rows sh : List RowEntry) (phase : Phase) (id session token : List ℕ) (lapse : ℕ) → id ≡ session
-    → frame_room (room_at phase s d c rows sh id token lapse) session ≡ room_at (acknowledged_phase phase) s d c rows sh id token lapse
-frame_mine s d c rows sh phase id session token lapse e =
-    frame_own s d c rows sh phase id session token lapse (subst (λ x. bytes_eq id x ≡ true) e (bytes_eq_self id))
+acknowledgement_is : (bytes : List ℕ) → is_acknowledgement bytes ≡ true → bytes ≡ ack
+acknowledgement_is bytes h = same_bytes bytes ack h
 
-pub frame_not_mine : (s : Schema) (d : RoomDef) (c : List (List ℕ)) (rows sh : List RowEntry) (phase : Phase) (id session token : List ℕ) (lapse : ℕ) → (id ≡ session → ⊥)
-    → frame_room (room_at phase s d c rows sh id token lapse) session ≡ room_at phase s d c rows sh id token lapse
-frame_not_mine s d c rows sh phase id session token lapse ne =
-    frame_other s d c rows sh phase id session token lapse (false_from_ne_true (bytes_eq id session) (λ t. ne (same_bytes id session t)))
+-- of the room's own session, and of another one
+pub frame_both : (s : Schema) (d : RoomDef) (c : List (List ℕ)) (rows sh : List RowEntry) (phase : Phase) (id session token bytes : List ℕ) (lapse : ℕ) → is_acknowledgement bytes ≡ true → id ≡ session
+    → after_frame (room_at phase s d c rows sh id token lapse) session bytes ≡ and_nothing (room_at (acknowledged_phase phase) s d c rows sh id token lapse)
+frame_both s d c rows sh phase id session token bytes lapse is e =
+    ap (λ b. after_frame (room_at phase s d c rows sh id token lapse) session b) (acknowledgement_is bytes is)
+    ∙ frame_own s d c rows sh phase id session token lapse (subst (λ x. bytes_eq id x ≡ true) e (bytes_eq_self id))
+
+pub frame_mine : (s : Schema) (d : RoomDef) (c : List (List ℕ)) (rows sh : List RowEntry) (phase : Phase) (id session token bytes : List ℕ) (lapse : ℕ) → is_acknowledgement bytes ≡ true → id ≡ session
+    → (after_frame (room_at phase s d c rows sh id token lapse) session bytes).0 ≡ room_at (acknowledged_phase phase) s d c rows sh id token lapse
+frame_mine s d c rows sh phase id session token bytes lapse is e = ap (λ x. x.0) (frame_both s d c rows sh phase id session token bytes lapse is e)
+
+frame_else : (s : Schema) (d : RoomDef) (c : List (List ℕ)) (rows sh : List RowEntry) (phase : Phase) (id session token bytes : List ℕ) (lapse : ℕ) → (id ≡ session → ⊥)
+    → after_frame (room_at phase s d c rows sh id token lapse) session bytes ≡ and_nothing (room_at phase s d c rows sh id token lapse)
+frame_else s d c rows sh phase id session token bytes lapse ne =
+    frame_other s d c rows sh phase id session token bytes lapse (false_from_ne_true (bytes_eq id session) (λ t. ne (same_bytes id session t)))
+
+pub frame_not_mine : (s : Schema) (d : RoomDef) (c : List (List ℕ)) (rows sh : List RowEntry) (phase : Phase) (id session token bytes : List ℕ) (lapse : ℕ) → (id ≡ session → ⊥)
+    → (after_frame (room_at phase s d c rows sh id token lapse) session bytes).0 ≡ room_at phase s d c rows sh id token lapse
+frame_not_mine s d c rows sh phase id session token bytes lapse ne = ap (λ x. x.0) (frame_else s d c rows sh phase id session token bytes lapse ne)
+
+-- nothing is given
+pub frame_gives : (s : Schema) (d : RoomDef) (c : List (List ℕ)) (rows sh : List RowEntry) (phase : Phase) (id session token bytes : List ℕ) (lapse : ℕ) → is_acknowledgement bytes ≡ true
+    → (after_frame (room_at phase s d c rows sh id token lapse) session bytes).1 ≡ []
+frame_gives s d c rows sh phase id session token bytes lapse is =
+    let go : (b : Bool) → bytes_eq id session ≡ b → (after_frame (room_at phase s d c rows sh id token lapse) session bytes).1 ≡ [] = elim [
+      | true ↦ λ same. ap (λ x. x.1) (frame_both s d c rows sh phase id session token bytes lapse is (same_bytes id session same))
+      | false ↦ λ other. ap (λ x. x.1) (frame_other s d c rows sh phase id session token bytes lapse other)
+    ] in go (bytes_eq id session) refl
 
 -- ---- a tick
 

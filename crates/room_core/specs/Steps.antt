@@ -10,7 +10,7 @@ use Rattle.frame_model.specs.Frames.{server_bytes}
 use Rattle.frame_model.specs.declared.frame.ServerFrame.TheVariants as server
 use Rattle.room_model.specs.declared.event.RoomOut.{RoomOut}
 use Rattle.room_model.specs.declared.event.RoomOut.TheVariants as out
-use Rattle.room_model.specs.Room.{RoomValue, with_sessions, change_session, acknowledged}
+use Rattle.room_model.specs.Room.{join_frame}
 use Rattle.plain_rows.specs.Numbers.{field_index}
 use Rattle.room_core.specs.declared.place.Phase.{Phase}
 use Rattle.room_core.specs.declared.place.Phase.TheVariants.{Joining, Due, Live}
@@ -20,14 +20,14 @@ use Rattle.room_core.specs.Values.{patch_of}
 abbrev pub put_number : ℕ → ℤ → List FieldValue → List FieldValue
 put_number i z fields = rising.put field_index (record { field = i; value = value.Whole z }) fields
 
+-- what the opening of a reservation gives
+abbrev pub enter_outs : List ℕ → List ℕ → List RoomOut
+enter_outs session fresh = out.Entered session ∷ out.Send session (join_frame fresh) ∷ []
+
 -- the phase after an acknowledgement of the session
 abbrev pub acknowledged_phase : Phase → Phase
 acknowledged_phase Joining = Due
 acknowledged_phase p = p
-
--- the room after an acknowledgement
-abbrev pub frame_room : RoomValue → List ℕ → RoomValue
-frame_room r session = with_sessions r (change_session session acknowledged r.sessions)
 
 -- the phase after a tick
 abbrev pub ticked_phase : Phase → Phase

@@ -11,7 +11,8 @@ use Rattle.room_model.specs.declared.definition.RoomDef.{RoomDef}
 use Rattle.room_model.specs.declared.event.Stage.{Stage}
 use Rattle.room_model.specs.declared.event.Stage.TheVariants as stage
 use Rattle.room_model.specs.Seats.{Seats}
-use Rattle.room_model.specs.Room.{RoomValue, Session}
+use Rattle.room_model.specs.Sessions.{Session}
+use Rattle.room_model.specs.Room.{RoomValue}
 use Rattle.room_core.specs.declared.place.Place.{Place}
 use Rattle.room_core.specs.declared.place.Phase.{Phase}
 use Rattle.room_core.specs.declared.place.Phase.TheVariants.{Empty, Reserved, Joining, Due, Live}

@@ -7,10 +7,10 @@ ghost use Rattle.schema_model.specs.Fits.{in_signed};
 ghost use Rattle.state_model.specs.Commands.{do_command};
 ghost use Rattle.state_model.specs.Shown.{permitted as permitted_view};
 ghost use Rattle.room_model.specs.Seats.{has_reservation};
-ghost use Rattle.room_model.specs.Room.{new_room, room_step, after_reserve, after_enter, enter_outs, after_answer, after_tick};
+ghost use Rattle.room_model.specs.Room.{new_room, room_step, after_reserve, after_enter, after_frame, after_answer, after_tick};
 ghost use Rattle.plain_rows.specs.Numbers.{is_number_schema, AreNumberRows, number_rows, number_count};
-ghost use Rattle.room_core.specs.Takes.{takes, has_no_session, is_number_put};
-ghost use Rattle.room_core.specs.Steps.{frame_room, put_number, acknowledged_phase, ticked_phase, phase_outs, sent_to};
+ghost use Rattle.room_core.specs.Takes.{takes, has_no_session, is_acknowledgement, is_number_put};
+ghost use Rattle.room_core.specs.Steps.{put_number, acknowledged_phase, ticked_phase, phase_outs, sent_to};
 
 use crate::frames::{full_frame, join_frame, patch_frame};
 use crate::place::{Phase, Place};
@@ -118,8 +118,8 @@ impl Room {
                 Ok(Seq::new(alloc))
             }
             RoomEvent::Enter(session, None, fresh) => self.enter(*session, *fresh),
-            RoomEvent::Frame(session, _) => {
-                self.acknowledge(*session);
+            RoomEvent::Frame(session, bytes) => {
+                self.acknowledge(*session, bytes);
                 Ok(Seq::new(alloc))
             }
             RoomEvent::Act(Act::State(command)) => {
@@ -127,7 +127,6 @@ impl Room {
                 Ok(Seq::new(alloc))
             }
             RoomEvent::Tick => self.tick(),
-            RoomEvent::Moment(_) => Ok(Seq::new(alloc)),
             _ => unreachable!(),
         }
     }
@@ -143,8 +142,8 @@ impl Room {
 
     fn enter(&mut self, session: Id, fresh: Id) -> Result<RoomOuts, Memory>
         requires { IsTrue (has_reservation self.old.room.seats session) }
-        ensures outs { IfOk result (λ outs. outs ≡ enter_outs session fresh) }
-        ensures after { OnOk result (self.new ≡ record { room = after_enter self.old.room session fresh; spent = self.old.spent }) }
+        ensures outs { IfOk result (λ outs. outs ≡ (after_enter self.old.room session None fresh).1) }
+        ensures after { OnOk result (self.new ≡ record { room = (after_enter self.old.room session None fresh).0; spent = self.old.spent }) }
     {
         let alloc = self.alloc;
         let mut outs = Seq::new(alloc);
@@ -156,9 +155,12 @@ impl Room {
         Ok(outs)
     }
 
-    fn acknowledge(&mut self, session: Id)
-        ensures { self.new ≡ record { room = frame_room self.old.room session; spent = self.old.spent } }
+    fn acknowledge(&mut self, session: Id, bytes: &Bytes)
+        requires { IsTrue (is_acknowledgement bytes.now) }
+        ensures outs { (after_frame self.old.room session bytes.now).1 ≡ [] }
+        ensures after { self.new ≡ record { room = (after_frame self.old.room session bytes.now).0; spent = self.old.spent } }
     {
+        let _ = bytes;
         if self.place.session == session {
             self.place.phase = acknowledged(self.place.phase);
         }

@@ -1,3 +1,4 @@
 pub mod Seats
 pub mod Ledger
+pub mod Sessions
 pub mod Room
