@@ -1,9 +1,8 @@
 //! A row while a frame is read.
 use crate::whole_row::WholeRow;
 use canon_patch::linked::emptied;
-use lists::{Keyed, Memory};
+use lists::Memory;
 use op_reader::{RowKind, kind_of_row};
-use schema_model::RefNum;
 use state_model::Row;
 use std::alloc::Global;
 
@@ -12,21 +11,6 @@ use std::alloc::Global;
 pub enum Draft {
     Kept(Row),
     Resting(Box<WholeRow>),
-}
-
-/// A draft under the number of its row.
-#[derive(Drop)]
-pub struct DraftEntry {
-    pub who: RefNum,
-    pub draft: Draft,
-}
-
-impl Keyed for DraftEntry {
-    ghost key = { λ d. d.who };
-
-    fn key(&self) -> u32 {
-        self.who.0
-    }
 }
 
 impl Draft {

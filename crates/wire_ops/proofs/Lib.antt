@@ -1,5 +1,4 @@
 mod IndexLaws
-mod KeyLaws
 mod ItemLaws
 mod PlaceLaws
 mod SlotLaws

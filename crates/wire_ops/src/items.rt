@@ -1,13 +1,13 @@
-ghost use Rattle.std.specs.Prelude.{◌≡◌, ◌==◌, ◌||◌, not, filter, [], OnOk, IfOk, is_some};
-ghost use Rattle.wire_ops.specs.Keys.{key_number};
+ghost use Rattle.std.specs.Prelude.{◌≡◌, ◌==◌, ◌||◌, not, filter, [], OnOk, IfOk, is_some, option_copied};
+ghost use Rattle.wire_ops.specs.Keys.{may_lead};
 ghost use Rattle.std.specs.List.{list_any};
 ghost use Rattle.std.specs.Str.{bytes_eq};
 ghost use Rattle.lists.specs.Rising as rising;
 ghost use Rattle.state_model.specs.declared.row.MapItem.{MapItem};
 ghost use Rattle.wire_model.specs.Effect.{without_key, put_named, put_value};
-ghost use Rattle.wire_ops.specs.Index.{IsIndex};
+ghost use Rattle.wire_ops.specs.Index.{IsIndex, AreDifferent, item_at, other_than, without_item};
 
-use crate::key_index::KeyIndex;
+use crate::key_index::{KeyIndex, is_taken, key_hash, owner};
 use lists::{Memory, Text};
 use schema_model::Value;
 use state_model::{MapItem, MapItems};
@@ -27,15 +27,15 @@ pub struct Items {
 
 impl Model for Items {
     ghost use Rattle.std.specs.Prelude.{List, IfSome};
-    ghost use Rattle.wire_ops.specs.Keys.{key_number};
+    ghost use Rattle.wire_ops.specs.Keys.{may_lead};
     ghost use Rattle.state_model.specs.declared.row.MapItem.{MapItem};
-    ghost use Rattle.wire_ops.specs.Index.{IsIndex};
+    ghost use Rattle.wire_ops.specs.Index.{IsIndex, AreDifferent};
 
     ghost Value = { List MapItem };
 
     ghost view = { λ s. s.items };
 
-    ghost invariant = { λ s. IfSome s.index (λ i. IsIndex s.items (key_number i)) };
+    ghost invariant = { λ s. IfSome s.index (λ i. IsIndex s.items (may_lead i) × AreDifferent s.items) };
 }
 
 impl Items {
@@ -128,10 +128,7 @@ impl Items {
     pub fn remove(&mut self, number: u32)
         ensures { self.new ≡ rising.remove (λ (i : MapItem). i.number) number self.old }
     {
-        let gone = self.items.remove(number);
-        if let Some(index) = &mut self.index {
-            index.forget(gone);
-        }
+        self.items.remove(number);
     }
 
     /// Takes all items out.
@@ -152,20 +149,51 @@ fn put_by_index(
     key: &Text,
     value: Value,
 ) -> Result<(), Memory>
-    requires { IsIndex items.old (key_number index.old) }
+    requires index { IsIndex items.old (may_lead index.old) }
+    requires different { AreDifferent items.old }
     ensures items { OnOk result (items.new ≡ put_named number key.now value items.old) }
-    ensures index { OnOk result (IsIndex items.new (key_number index.new)) }
+    ensures index { OnOk result (IsIndex items.new (may_lead index.new)) }
+    ensures different { OnOk result (AreDifferent items.new) }
 {
-    let replaced = items.put(MapItem {
+    let hash = key_hash(key);
+    let first = item_at(items, index.under(hash));
+    let second = item_at(items, index.by_itself(key));
+    let other = other_than(number, owner(first, second, key));
+    let taken = is_taken(first, hash, key);
+    index.put(alloc, hash, key, number, taken)?;
+    items.put(MapItem {
         number,
         key: key.copy(alloc)?,
         value,
     })?;
-    index.forget(replaced);
-    if let Some(other) = index.put(alloc, key, number)? {
-        items.remove(other);
-    }
+    take_out(items, other);
     Ok(())
+}
+
+// A number that was found, unless it is this one.
+fn other_than(number: u32, found: Option<u32>) -> Option<u32>
+    ensures { result ≡ other_than number found }
+{
+    match found {
+        Some(other) if other != number => Some(other),
+        _ => None,
+    }
+}
+
+// Takes the item of a number out, where there is one.
+fn take_out(items: &mut Tree<MapItem>, number: Option<u32>)
+    ensures { items.new ≡ without_item number items.old }
+{
+    if let Some(number) = number {
+        items.remove(number);
+    }
+}
+
+// The item of a number, where there is one.
+fn item_at<'a>(items: &'a Tree<MapItem>, number: Option<u32>) -> Option<&'a MapItem>
+    ensures { option_copied result ≡ item_at items.now number }
+{
+    items.get(number?)
 }
 
 // The items without another number that has this key.

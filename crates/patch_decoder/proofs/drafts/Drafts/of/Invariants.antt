@@ -4,4 +4,4 @@ use Rattle.patch_decoder.proofs.drafts.Drafts.of.Given as goal
 
 -- the rows so far
 abbrev pub invariant-loop-entry : goal.invariant-loop-entry
-invariant-loop-entry l = (entries_of l.drafts ≡ take l.entry-index l.entry-items) × (l.entry-items ≡ l.rows)
+invariant-loop-entry l = (entries_of l.drafts.entries ≡ take l.entry-index l.entry-items) × (l.entry-items ≡ l.rows)
