@@ -10,7 +10,7 @@ use Rattle.std.proofs.lemmas.List.Sums.{length-filter, count_by-le-length}
 use Rattle.room_model.specs.declared.seat.SeatFault.TheVariants.{NoSeat}
 use Rattle.room_model.specs.Seats.{Seats, Seat, Reservation, KeptSeat, in_use, has_reservation}
 use Rattle.room_model.specs.Ledger as ledger
-use Rattle.life_laws.specs.Ledgers.{Within, KeepsMax, LedgersKeep}
+use Rattle.room_laws.specs.Ledgers.{Within, KeepsMax, LedgersKeep}
 
 -- ---- lists
 
@@ -86,7 +86,7 @@ keep_keeps s within session lapse (Some x) found =
     (omega (arith, filter_drops (seat_is session) s.seats (any_found _ s.seats x found)), refl)
 
 -- what goes leaves no more than was there
-left_keeps : (s : Seats) → Within s → (session : List ℕ) → KeepsMax s (ledger.left_seat s session)
+pub left_keeps : (s : Seats) → Within s → (session : List ℕ) → KeepsMax s (ledger.left_seat s session)
 left_keeps s within session =
     let seats = filter_fits (λ x. not (seat_is session x)) s.seats in
     let reserved = filter_fits (λ x. not (reservation_is session x)) s.reserved in

@@ -1,5 +1,0 @@
-use Rattle.life_laws.proofs.LedgerPlaces as kept
-use Rattle.life_laws.proofs.ledgers.ledgers_keep.Goals as goal
-
-pub returns : goal.returns
-returns c = kept.ledgers_keep

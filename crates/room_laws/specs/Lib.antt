@@ -1,0 +1,4 @@
+pub mod Ledgers
+pub mod Places
+pub mod Placed
+pub mod StepLaws
