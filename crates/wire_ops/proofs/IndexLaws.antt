@@ -184,21 +184,19 @@ leads_here under after by then hash key n false p is =
     let at : after (key_hash key) ≡ Some n = p.numbers (key_hash key) ∙ ap (λ b. cond b (Some n) (under (key_hash key))) same in
     grind (arith, nat_tests, at)
 
-taken_there : (items : List MapItem) (under : Option ℕ) (hash : ℕ) (key q : List ℕ) (k : ℕ) → is_found under k ≡ true → has_key q (item_of items k) ≡ true → bytes_eq key q ≡ false → hash ≡ key_hash q →
-    is_taken hash key (item_at items under) ≡ true
-taken_there items under hash key q k found has apart is = at_item (item_of items k) refl has
+taken_there : (items : List MapItem) (under : Option ℕ) (key q : List ℕ) (k : ℕ) → is_found under k ≡ true → has_key q (item_of items k) ≡ true → bytes_eq key q ≡ false →
+    is_taken key (item_at items under) ≡ true
+taken_there items under key q k found has apart = at_item (item_of items k) refl has
   where
-    at_item : (o : Option MapItem) → item_of items k ≡ o → has_key q o ≡ true → is_taken hash key (item_at items under) ≡ true
+    at_item : (o : Option MapItem) → item_of items k ≡ o → has_key q o ≡ true → is_taken key (item_at items under) ≡ true
     at_item None at has = cc
     at_item (Some i) at has =
-        let same : i.key ≡ q = same_bytes i.key q has in
-        let differs : bytes_eq i.key key ≡ false = subst (λ x. bytes_eq x key ≡ false) (sym same) (bytes_eq_sym q key ∙ apart) in
-        let hashed : (key_hash i.key == hash) ≡ true = subst (λ h. (key_hash i.key == h) ≡ true) (sym (is ∙ ap key_hash (sym same))) (eq-eqb (key_hash i.key) (key_hash i.key) refl) in
-        ap (λ o. is_taken hash key (item_at items o)) (found_is under k found) ∙ (ap (is_taken hash key) at ∙ (ap (λ b. not b && (key_hash i.key == hash)) differs ∙ hashed))
+        let differs : bytes_eq i.key key ≡ false = subst (λ x. bytes_eq x key ≡ false) (sym (same_bytes i.key q has)) (bytes_eq_sym q key ∙ apart) in
+        ap (λ o. is_taken key (item_at items o)) (found_is under k found) ∙ (ap (is_taken key) at ∙ ap not differs)
 
 -- other keys of the items lead where they led
 leads_kept : (items : List MapItem) (under after : ByHash) (by then : ByKey) (hash : ℕ) (key q : List ℕ) (n k : ℕ) (taken : Bool) → Points under after by then hash key n taken →
-    taken ≡ is_taken hash key (item_at items (under hash)) → bytes_eq key q ≡ false → has_key q (item_of items k) ≡ true → leads_by under by q k ≡ true → leads_by after then q k ≡ true
+    taken ≡ is_taken key (item_at items (under hash)) → bytes_eq key q ≡ false → has_key q (item_of items k) ≡ true → leads_by under by q k ≡ true → leads_by after then q k ≡ true
 leads_kept items under after by then hash key q n k taken p taken_is apart has leads = by_turn (not taken && (hash == key_hash q)) refl
   where
     none_and : (b : Bool) → (b && false) ≡ false
@@ -222,7 +220,7 @@ leads_kept items under after by then hash key q n k taken p taken_is apart has l
     not_under turned true found =
         let parts = and_parts (not taken) (hash == key_hash q) turned in
         let same : hash ≡ key_hash q = grind (arith, nat_tests, parts.1) in
-        let is_true : taken ≡ true = taken_is ∙ taken_there items (under hash) hash key q k (ap (λ h. is_found (under h) k) same ∙ found) has apart same in
+        let is_true : taken ≡ true = taken_is ∙ taken_there items (under hash) key q k (ap (λ h. is_found (under h) k) same ∙ found) has apart in
         let no : not taken ≡ false = ap not is_true in cc
 
     by_turn : (c : Bool) → (not taken && (hash == key_hash q)) ≡ c → leads_by after then q k ≡ true
@@ -234,7 +232,7 @@ leads_kept items under after by then hash key q n k taken p taken_is apart has l
         any_or (is_found (after (key_hash q)) k) (is_found (then q) k) (ap (λ o. is_found o k) by_same ∙ found)
 
 IsIndex-put_named : (n : ℕ) (key : List ℕ) (v : Value) (items : List MapItem) (under after : ByHash) (by then : ByKey) (hash : ℕ) (taken : Bool) → Rises items → IsIndex items (leads_by under by) →
-    Points under after by then hash key n taken → hash ≡ key_hash key → taken ≡ is_taken hash key (item_at items (under hash)) → IsIndex (put_named n key v items) (leads_by after then)
+    Points under after by then hash key n taken → hash ≡ key_hash key → taken ≡ is_taken key (item_at items (under hash)) → IsIndex (put_named n key v items) (leads_by after then)
 IsIndex-put_named n key v items under after by then hash taken r index p is taken_is = λ q k has.
     let go : (b : Bool) → (n == k) ≡ b → leads_by after then q k ≡ true = elim [
       | true ↦ λ same.
@@ -259,7 +257,7 @@ AreDifferent-put_named n key v items r different = λ q j k has_j has_k.
 
 -- an item is put in, and another one that has its key is taken out
 pub put_by_index : (n : ℕ) (key copied : List ℕ) (v : Value) (items after : List MapItem) (under then : ByHash) (by so : ByKey) (hash : ℕ) (taken : Bool) (owner : Option ℕ) →
-    copied ≡ key → Rises items → IsIndex items (leads_by under by) → AreDifferent items → hash ≡ key_hash key → taken ≡ is_taken hash key (item_at items (under hash)) →
+    copied ≡ key → Rises items → IsIndex items (leads_by under by) → AreDifferent items → hash ≡ key_hash key → taken ≡ is_taken key (item_at items (under hash)) →
     owner ≡ owner_of key (item_at items (under hash)) (item_at items (by key)) → Points under then by so hash key n taken →
     after ≡ without_item (other_than n owner) (put number_of (record { number = n; key = copied; value = v }) items) →
     (after ≡ put_named n key v items) × (IsIndex after (leads_by then so) × AreDifferent after)
@@ -339,7 +337,7 @@ more_has q k es x h = by_held (find number_of k es) (sym (ap (has_key q) (find-a
 
 -- one more item, whose key none of those before it has
 pub index_more : (xs : List MapItem) (i : ℕ) (x : MapItem) (under after : ByHash) (by then : ByKey) (hash : ℕ) (taken : Bool) → i < length xs → x ≡ get_or xs i x →
-    hash ≡ key_hash x.key → taken ≡ is_taken hash x.key (item_at xs (under hash)) → owner_of x.key (item_at xs (under hash)) (item_at xs (by x.key)) ≡ None →
+    hash ≡ key_hash x.key → taken ≡ is_taken x.key (item_at xs (under hash)) → owner_of x.key (item_at xs (under hash)) (item_at xs (by x.key)) ≡ None →
     Points under after by then hash x.key x.number taken → IsIndex (take i xs) (leads_by under by) → AreDifferent (take i xs) →
     IsIndex (take (i + 1) xs) (leads_by after then) × AreDifferent (take (i + 1) xs)
 index_more xs i x under after by then hash taken less at is taken_is none p index different =

@@ -25,7 +25,7 @@ by_itself index key = text_number index.others key
 abbrev pub may_lead : KeyIndex → List ℕ → ℕ → Bool
 may_lead index key n = is_found (under index (key_hash key)) n || is_found (by_itself index key) n
 
--- an item has another key than this, with this hash
-abbrev pub is_taken : ℕ → List ℕ → Option MapItem → Bool
-is_taken hash key None = false
-is_taken hash key (Some i) = not (bytes_eq i.key key) && (key_hash i.key == hash)
+-- an item has another key than this
+abbrev pub is_taken : List ℕ → Option MapItem → Bool
+is_taken key None = false
+is_taken key (Some i) = not (bytes_eq i.key key)

@@ -159,7 +159,7 @@ fn put_by_index(
     let first = item_at(items, index.under(hash));
     let second = item_at(items, index.by_itself(key));
     let other = other_than(number, owner(first, second, key));
-    let taken = is_taken(first, hash, key);
+    let taken = is_taken(first, key);
     index.put(alloc, hash, key, number, taken)?;
     items.put(MapItem {
         number,

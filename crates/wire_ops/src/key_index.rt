@@ -56,7 +56,7 @@ impl KeyIndex {
             if owner(first, second, &item.key).is_some() {
                 return Ok(None);
             }
-            let taken = is_taken(first, hash, &item.key);
+            let taken = is_taken(first, &item.key);
             index.put(alloc, hash, &item.key, item.number, taken)?;
         }
         Ok(Some(index))
@@ -76,7 +76,7 @@ impl KeyIndex {
         self.others.get(key.as_str())
     }
 
-    /// The key leads to this number from now on: by itself where its hash is taken, else by its hash.
+    /// The key leads to this number from now on: by itself where its hash is taken, else by its hash, which is given.
     pub fn put(
         &mut self,
         alloc: Global,
@@ -127,12 +127,12 @@ pub fn owner(first: Option<&MapItem>, second: Option<&MapItem>, key: &Text) -> O
     None
 }
 
-/// Whether another key than this has the hash, and is an item's.
-pub fn is_taken(item: Option<&MapItem>, hash: u32, key: &Text) -> bool
-    ensures { result ≡ is_taken hash key.now (option_copied item.entry) }
+/// Whether an item has another key than this. It takes no longer than this key is long, however long the item's is.
+pub fn is_taken(item: Option<&MapItem>, key: &Text) -> bool
+    ensures { result ≡ is_taken key.now (option_copied item.entry) }
 {
     match item {
-        Some(item) => item.key.as_slice() != key.as_slice() && key_hash(&item.key) == hash,
+        Some(item) => item.key.as_slice() != key.as_slice(),
         None => false,
     }
 }

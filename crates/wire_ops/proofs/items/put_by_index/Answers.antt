@@ -25,7 +25,7 @@ put_in c =
     c.take_out.ensures ∙ (ap (λ o. without_item o c.put-2.new.self) c.other_than-other.ensures ∙ ap (without_item (other_than c.args.number c.owner.result)) c.in_ok-put-2.ensures.ok) in
     put_by_index c.args.number key c.in_ok-copy.field-0 c.args.value items c.take_out.new.items (under index) (under c.put.new.self) (by_itself index) (by_itself c.put.new.self)
     hash c.is_taken-taken.result c.owner.result c.in_ok-copy.ensures c.in_ok-put-2.ensures.rises c.requires.index c.requires.different c.key_hash-hash.ensures
-    (c.is_taken-taken.ensures ∙ ap (is_taken hash key) first) owner (record { numbers = c.in_ok-put.ensures.numbers; others = c.in_ok-put.ensures.others }) made
+    (c.is_taken-taken.ensures ∙ ap (is_taken key) first) owner (record { numbers = c.in_ok-put.ensures.numbers; others = c.in_ok-put.ensures.others }) made
 
 pub returns-clause-items : goal.returns-clause-items
 returns-clause-items c = (put_in c).0

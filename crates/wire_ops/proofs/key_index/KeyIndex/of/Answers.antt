@@ -19,7 +19,7 @@ loop-item-preserved c =
     let none : owner_of x.key (item_at xs (under index hash)) (item_at xs (by_itself index x.key)) ≡ None =
     sym (c.owner.ensures ∙ (ap (λ o. owner_of x.key o (option_copied c.listed-second.result)) first ∙ ap (owner_of x.key (item_at xs (under index hash))) second)) ∙ nobody in
     index_more xs c.loop-item.item-index x (under index) (under c.put.new.self) (by_itself index) (by_itself c.put.new.self) hash c.is_taken-taken.result
-    c.loop-item-test.true c.item-item.is c.key_hash-hash.ensures (c.is_taken-taken.ensures ∙ ap (is_taken hash x.key) first) none
+    c.loop-item-test.true c.item-item.is c.key_hash-hash.ensures (c.is_taken-taken.ensures ∙ ap (is_taken x.key) first) none
     (record { numbers = c.in_ok-put.ensures.numbers; others = c.in_ok-put.ensures.others }) c.loop-item.invariant.0 c.loop-item.invariant.1
 
 pub returns : goal.returns
