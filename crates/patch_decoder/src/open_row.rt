@@ -8,16 +8,19 @@ ghost use Rattle.patch_decoder.specs.Holes.{makes_hole, may_hole};
 
 use crate::draft::Draft;
 use crate::whole_row::WholeRow;
-use lists::{Memory, Rising};
+use lists::{Memory, Rising, Text};
 use schema_model::TypeNum;
-use state_model::Row;
+use state_model::{MapItem, Row};
 use std::alloc::Global;
 use std::marker::Model;
-use wire_model::Op;
+use wire_model::{Op, OpKey};
 use wire_ops::Holder;
 
-// A row with fewer places is closed at once, which costs less than to keep it open.
-const FEW: usize = 32;
+// A row of less weight is closed at once, which costs less than to keep it open.
+const LIGHT: usize = 32;
+
+// So many bytes of a key weigh as much as a place: to open a map again, its keys are hashed.
+const KEY_BYTES: usize = 32;
 
 /// A row while operations are done to it.
 #[derive(Drop)]
@@ -25,8 +28,8 @@ pub struct OpenRow {
     holder: Holder,
     // Whether there may be holes, which only arrays have.
     holed: bool,
-    // At most as many places as there are, unless there are many.
-    places: usize,
+    // What its places and keys weighed when it was opened, and what was put in since.
+    weight: usize,
 }
 
 impl Model for OpenRow {
@@ -50,7 +53,7 @@ impl OpenRow {
         OpenRow {
             holder: Holder::Fields(TypeNum(0), Rising::new(alloc)),
             holed: false,
-            places: 0,
+            weight: 0,
         }
     }
 
@@ -63,7 +66,7 @@ impl OpenRow {
             Draft::Resting(rest) => Ok(OpenRow {
                 holder: Box::into_inner(rest).into_holder(),
                 holed: false,
-                places: FEW,
+                weight: LIGHT,
             }),
         }
     }
@@ -72,12 +75,12 @@ impl OpenRow {
     fn open_kept(alloc: Global, row: Row) -> Result<OpenRow, Memory>
         ensures { IfOk result (λ r. r ≡ opened row) }
     {
-        let places = places_of(&row);
+        let weight = weight_of(&row);
         let holder = Holder::open(alloc, row)?;
         Ok(OpenRow {
             holder,
             holed: false,
-            places,
+            weight,
         })
     }
 
@@ -94,17 +97,17 @@ impl OpenRow {
     {
         let holed = self.holed || may_hole(&self.holder, op);
         self.holed = true;
-        self.places = self.places.saturating_add(1);
+        self.weight = self.weight.saturating_add(weight_of_op(op));
         self.holder.apply(alloc, op)?;
         self.holed = holed;
         Ok(())
     }
 
-    /// Closes it. Where it has many places and no holes, it stays ready to be opened again.
+    /// Closes it. Where it is heavy and has no holes, it stays ready to be opened again.
     pub fn shut(self, alloc: Global) -> Result<Draft, Memory>
         ensures { IfOk result (λ draft. row_of draft ≡ closed self) }
     {
-        if self.holed || self.places < FEW {
+        if self.holed || self.weight < LIGHT {
             return Ok(Draft::Kept(self.holder.close(alloc)?));
         }
         Ok(Draft::Resting(Box::new(alloc, WholeRow::of(self.holder))?))
@@ -128,12 +131,34 @@ fn makes_hole(op: &Op) -> bool
     matches!(op, Op::Delete(_) | Op::DeleteByRef(_))
 }
 
-// How many items a collection has.
-fn places_of(row: &Row) -> usize {
+// What it costs to open a collection: its places, and the bytes of its keys.
+fn weight_of(row: &Row) -> usize {
     match row {
         Row::Struct(_, _) => 0,
-        Row::Map(_, items) => items.len(),
+        Row::Map(_, items) => weight_of_items(items.as_slice()),
         Row::Array(_, values) => values.len(),
         Row::Set(_, items) => items.len(),
+    }
+}
+
+fn weight_of_items(items: &[MapItem]) -> usize {
+    let mut weight: usize = 0;
+    for item in items {
+        weight = weight.saturating_add(weight_of_key(&item.key));
+    }
+    weight
+}
+
+// An item with this key.
+fn weight_of_key(key: &Text) -> usize {
+    1 + key.len() / KEY_BYTES
+}
+
+// What an operation may add.
+fn weight_of_op(op: &Op) -> usize {
+    match op {
+        Op::Add(OpKey::Named(_, key), _) => weight_of_key(key),
+        Op::DeleteAdd(OpKey::Named(_, key), _) => weight_of_key(key),
+        _ => 1,
     }
 }
