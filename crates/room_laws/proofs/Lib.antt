@@ -1,8 +1,9 @@
-mod LedgerPlaces
+pub mod LedgerPlaces
 mod LedgerRows
-mod RoomPlaces
-mod SessionLists
-mod PlacedSteps
-mod RoomPlaced
-mod StepFacts
-mod RoomObeys
+pub mod RoomPlaces
+pub mod SessionLists
+pub mod PlacedSteps
+pub mod RoomPlaced
+pub mod StepFacts
+pub mod RoomObeys
+pub mod Ordering

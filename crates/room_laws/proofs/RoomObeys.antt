@@ -502,7 +502,7 @@ step_obeys r (event.Act a) p h = act_laws r a p (step_placed r (event.Act a) p h
 step_obeys r event.Tick p h = tick_laws r p (step_placed r event.Tick p h)
 
 -- a connected session has a place
-place_taken : (r : RoomValue) (id : List ℕ) → Placed r → connected r id ≡ true → 1 ≤ in_use r.seats
+pub place_taken : (r : RoomValue) (id : List ℕ) → Placed r → connected r id ≡ true → 1 ≤ in_use r.seats
 place_taken r id p h = by_seats r.seats.seats (p.seated id ∙ h)
   where
     by_seats : (xs : List Seat) → is_some (find (λ (x : Seat). bytes_eq x.session id) xs) ≡ true → 1 ≤ length xs + length r.seats.reserved + length r.seats.kept

@@ -10,12 +10,14 @@ use Rattle.state_model.specs.Commands.{do_command}
 use Rattle.state_model.specs.declared.row.RowEntry.{RowEntry}
 use Rattle.state_model.specs.Shown.{permitted}
 use Rattle.state_model.specs.declared.command.TableFault.{TableFault}
+use Rattle.schema_model.specs.Classes.{Schema}
 use Rattle.frame_model.specs.Frames.{server_bytes}
 use Rattle.frame_model.specs.declared.frame.ServerFrame.TheVariants as server
 use Rattle.frame_model.specs.Reading.{read_client}
 use Rattle.frame_model.specs.declared.frame.ClientFrame.{ClientFrame}
 use Rattle.frame_model.specs.declared.frame.ClientFrame.TheVariants as client
 use Rattle.frame_model.specs.declared.fault.FrameFault.{FrameFault}
+use Rattle.room_model.specs.declared.definition.RoomDef.{RoomDef}
 use Rattle.room_model.specs.declared.event.Act.{Act}
 use Rattle.room_model.specs.declared.event.Act.TheVariants as act
 use Rattle.room_model.specs.declared.event.RoomEvent.{RoomEvent}
@@ -200,6 +202,10 @@ events_placed r (e ∷ es) p h =
     let parts = and_parts (may_happen r e) (may_follow (room_step r e).0 es) h in
     events_placed (room_step r e).0 es (step_placed r e p parts.0) parts.1
 
+-- a new room
+pub new_placed : (schema : Schema) (def : RoomDef) (criteria : List (List ℕ)) → Placed (new_room schema def criteria)
+new_placed schema def criteria = record { distinct = tt; seated = λ id. refl; reserved = λ id. refl; kept = λ id. refl }
+
 pub rooms_stay_placed : RoomsStayPlaced
 rooms_stay_placed schema def criteria events h =
-    events_placed (new_room schema def criteria) events (record { distinct = tt; seated = λ id. refl; reserved = λ id. refl; kept = λ id. refl }) h
+    events_placed (new_room schema def criteria) events (new_placed schema def criteria) h

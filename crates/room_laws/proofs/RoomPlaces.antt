@@ -29,7 +29,7 @@ use Rattle.room_laws.specs.Places.{may_happen, may_follow, room_after, RoomsKeep
 use Rattle.room_laws.proofs.LedgerPlaces.{ledgers_keep, left_keeps}
 
 -- a room keeps its places
-abbrev Keeps : RoomValue → RoomValue × List RoomOut → Type 0
+abbrev pub Keeps : RoomValue → RoomValue × List RoomOut → Type 0
 Keeps r x = KeepsMax r.seats x.0.seats
 
 -- one whose places stay as they are does
@@ -146,7 +146,7 @@ act_keeps r (act.Keep id ms) within = acted_keeps r id _ within
 
 -- ---- the step
 
-step_keeps : (r : RoomValue) (e : RoomEvent) → Within r.seats → may_happen r e ≡ true → Keeps r (room_step r e)
+pub step_keeps : (r : RoomValue) (e : RoomEvent) → Within r.seats → may_happen r e ≡ true → Keeps r (room_step r e)
 step_keeps r (event.Reserve session lapse) within h = reserve_keeps r session lapse within h
 step_keeps r (event.Enter session token fresh) within h = enter_keeps r session token fresh within
 step_keeps r (event.Frame session bytes) within h = connected_keeps r (session_of r.sessions session) _ within (λ s. read_keeps r session (read_client bytes) within)

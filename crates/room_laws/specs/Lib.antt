@@ -2,3 +2,4 @@ pub mod Ledgers
 pub mod Places
 pub mod Placed
 pub mod StepLaws
+pub mod Ordered

@@ -1,0 +1,28 @@
+-- The events that rooms take so far: reservations, openings, acknowledgements, commands, view edits and ticks. Ours.
+use Rattle.std.specs.Prelude.{ℕ, Bool, true, false, List}
+use Rattle.std.specs.Str.{bytes_eq}
+use Rattle.frame_model.specs.Frames.{client_bytes}
+use Rattle.frame_model.specs.declared.frame.ClientFrame.TheVariants as client
+use Rattle.room_model.specs.declared.event.Act.{Act}
+use Rattle.room_model.specs.declared.event.Act.TheVariants as act
+use Rattle.room_model.specs.declared.event.RoomEvent.{RoomEvent}
+use Rattle.room_model.specs.declared.event.RoomEvent.TheVariants as event
+
+-- the bytes are the acknowledgement
+abbrev pub is_acknowledgement : List ℕ → Bool
+is_acknowledgement bytes = bytes_eq bytes (client_bytes client.Ack)
+
+-- a command, or an edit of a view
+abbrev pub is_taken_act : Act → Bool
+is_taken_act (act.State command) = true
+is_taken_act (act.ViewAdd session pair) = true
+is_taken_act (act.ViewDel session pair) = true
+is_taken_act a = false
+
+abbrev pub is_taken : RoomEvent → Bool
+is_taken (event.Reserve session lapse) = true
+is_taken (event.Enter session token fresh) = true
+is_taken (event.Frame session bytes) = is_acknowledgement bytes
+is_taken (event.Act a) = is_taken_act a
+is_taken event.Tick = true
+is_taken e = false

@@ -1,0 +1,10 @@
+//! View edits: rows that come into a client's view and go, with what is behind them.
+#![tactic(auto)]
+
+pub mod edits;
+pub mod fault;
+#[cfg(test)]
+mod tests;
+
+pub use edits::{forget_freed, hide, show};
+pub use fault::EditFault;
