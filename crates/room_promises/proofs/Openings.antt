@@ -1,0 +1,159 @@
+-- An opening: each way in which it may go, and what it makes of a life that goes on.
+use Rattle.std.proofs.Common.{◌≡◌, ℕ, Bool, true, false, not, cond, ◌&&◌, List, [], ◌∷◌, ◌++◌, Option, Some, None, is_some, Result, Ok, Err, refl, sym, ap, ap₂, subst, ◌∙◌}
+use Rattle.std.specs.List.{flat_map}
+use Rattle.std.specs.Option.{option_map, option_map_or}
+use Rattle.std.specs.Str.{bytes_eq}
+use Rattle.lists.proofs.SameBytes.{same_bytes}
+use Rattle.schema_model.specs.Classes.{Schema}
+use Rattle.state_model.specs.declared.row.RowEntry.{RowEntry}
+use Rattle.room_model.specs.declared.event.RoomOut.{RoomOut}
+use Rattle.room_model.specs.declared.event.RoomOut.TheVariants as out
+use Rattle.room_model.specs.declared.event.Stage.{Stage}
+use Rattle.room_model.specs.declared.event.Stage.TheVariants.{Reserved, Joining, Due, Live, Kept}
+use Rattle.room_model.specs.declared.seat.SeatFault.{SeatFault}
+use Rattle.room_model.specs.declared.seat.SeatFault.TheVariants as fault
+use Rattle.room_model.specs.Seats.{Seats, KeptSeat, has_reservation}
+use Rattle.room_model.specs.Ledger.{kept_of, take_seat, retake_kept}
+use Rattle.room_model.specs.Sessions.{Session, session_of, change_session, at_stage}
+use Rattle.room_model.specs.Room.{RoomValue, opened_by, after_enter, after_return, join_frame}
+use Rattle.room_laws.specs.Placed.{Placed, is_reserved, is_kept}
+use Rattle.life_model.specs.Entries.{Entry, Record, Opened, Sending, Frame}
+use Rattle.life_model.specs.Lives.{entry_if, is_at, is_open}
+use Rattle.life_model.specs.Sent as standing
+use Rattle.life_model.specs.Sent.{Progress}
+use Rattle.room_promises.specs.RoomLives.{RoomLife, has_conn, given_by}
+use Rattle.room_promises.proofs.GoodLives.{held, AreMessages, Fits, GoesOn}
+use Rattle.room_promises.proofs.LifeSteps.{recorded, unopened, StepsOn, quiet, changed_here, changed_elsewhere}
+
+-- a session without a connection
+abbrev pub is_at_rest : Stage → Bool
+is_at_rest Reserved = true
+is_at_rest Joining = false
+is_at_rest Due = false
+is_at_rest Live = false
+is_at_rest Kept = true
+
+reserved_rests : (st : Stage) → is_reserved st ≡ true → is_at_rest st ≡ true
+reserved_rests Reserved h = refl
+reserved_rests Kept h = refl
+reserved_rests Joining h = cc
+reserved_rests Due h = cc
+reserved_rests Live h = cc
+
+kept_rests : (st : Stage) → is_kept st ≡ true → is_at_rest st ≡ true
+kept_rests Reserved h = refl
+kept_rests Kept h = refl
+kept_rests Joining h = cc
+kept_rests Due h = cc
+kept_rests Live h = cc
+
+rests_closed : (st : Stage) → is_at_rest st ≡ true → is_open st ≡ false
+rests_closed Reserved h = refl
+rests_closed Kept h = refl
+rests_closed Joining h = cc
+rests_closed Due h = cc
+rests_closed Live h = cc
+
+-- ---- the ways in which an opening may go
+
+module _ (P : RoomValue × List RoomOut → Type 0) (r : RoomValue) (session fresh : List ℕ) (p : Placed r) (in_use : P (r, out.TokenInUse session ∷ [])) (no_seat : P (r, out.NoSeat session ∷ []))
+    (opened : (seats : Seats) (told : RoomOut) → ((q : List ℕ) → given_by q told ≡ []) → ((s : Session) → session_of r.sessions session ≡ Some s → is_at_rest s.stage ≡ true)
+    → P (opened_by r session fresh told (Ok seats))) where
+  by_answer : (told : RoomOut) (x : Result Seats SeatFault) → ((q : List ℕ) → given_by q told ≡ []) → ((s : Session) → session_of r.sessions session ≡ Some s → is_at_rest s.stage ≡ true)
+      → P (opened_by r session fresh told x)
+  by_answer told (Ok seats) given rests = opened seats told given rests
+  by_answer told (Err fault.IdInUse) given rests = in_use
+  by_answer told (Err fault.Locked) given rests = no_seat
+  by_answer told (Err fault.Full) given rests = no_seat
+  by_answer told (Err fault.NoSeat) given rests = no_seat
+  by_answer told (Err fault.WrongToken) given rests = no_seat
+
+  by_kept : (token : List ℕ) (o : Option KeptSeat) → kept_of r.seats session ≡ o → P (opened_by r session fresh (out.Back session) (retake_kept r.seats session token fresh o))
+  by_kept token None found = no_seat
+  by_kept token (Some x) found =
+      by_answer (out.Back session) (retake_kept r.seats session token fresh (Some x)) (λ q. refl)
+      (λ s there. kept_rests s.stage (sym (ap (λ o. option_map_or is_kept (option_map (λ (s : Session). s.stage) o) false) there) ∙ (sym (p.kept session) ∙ ap is_some found)))
+
+  by_return : (token : Option (List ℕ)) → P (after_return r session token fresh)
+  by_return None = no_seat
+  by_return (Some token) = by_kept token (kept_of r.seats session) refl
+
+  pub enter_cases : (token : Option (List ℕ)) → P (after_enter r session token fresh)
+  enter_cases token =
+      let go : (b : Bool) → has_reservation r.seats session ≡ b → P (cond b (opened_by r session fresh (out.Entered session) (take_seat r.seats session fresh)) (after_return r session token fresh)) = elim [
+        | true ↦ λ has. by_answer (out.Entered session) (take_seat r.seats session fresh) (λ q. refl)
+            (λ s there. reserved_rests s.stage (sym (ap (λ o. option_map_or is_reserved (option_map (λ (s : Session). s.stage) o) false) there) ∙ (sym (p.reserved session) ∙ has)))
+        | false ↦ λ e. by_return token
+      ] in go (has_reservation r.seats session) refl
+
+-- ---- a life
+
+-- a record that is opened
+fits_opened : (schema : Schema) (rows : List RowEntry) (st : Stage) (s : Session) (token : List ℕ) (entries : Record) (outputs : List Sending) (view : List RowEntry) → is_at_rest st ≡ true
+    → Fits schema rows (held (at_stage st s)) entries outputs view → Fits schema rows (held (at_stage Joining s)) (entries ++ Opened token ∷ []) (outputs ++ Frame (join_frame token) ∷ []) view
+fits_opened schema rows Reserved s token entries outputs view h f = record {
+  progress = recorded schema entries (Opened token) _ f.progress ∙ ap (joined token outputs) (sym f.queue);
+  queue = subst AreMessages (sym f.queue) tt;
+  sees = tt;
+}
+  where
+    joined : List ℕ → List Sending → List (List ℕ) → Progress
+    joined token outputs queue = record { standing = standing.Joining queue; given = outputs ++ Frame (join_frame token) ∷ [] }
+fits_opened schema rows Kept s token entries outputs view h f = record {
+  progress = recorded schema entries (Opened token) _ f.progress ∙ ap (joined token outputs) (sym f.queue);
+  queue = subst AreMessages (sym f.queue) tt;
+  sees = tt;
+}
+  where
+    joined : List ℕ → List Sending → List (List ℕ) → Progress
+    joined token outputs queue = record { standing = standing.Joining queue; given = outputs ++ Frame (join_frame token) ∷ [] }
+fits_opened schema rows Joining s token entries outputs view h f = cc
+fits_opened schema rows Due s token entries outputs view h f = cc
+fits_opened schema rows Live s token entries outputs view h f = cc
+
+module _ (schema : Schema) (rows : List RowEntry) (r : RoomValue) (l : RoomLife) (g : GoesOn schema rows r.sessions l) where
+  -- what is recorded of an opening
+  abbrev opening : List ℕ → RoomValue → List Entry
+  opening fresh after = entry_if (not (has_conn r l.session) && has_conn after l.session) (Opened fresh)
+
+  -- an opening that changes no session here
+  refused : (fresh : List ℕ) (o : RoomOut) → given_by l.session o ≡ [] → StepsOn schema rows (r, o ∷ []) (opening fresh r) l
+  refused fresh o given = quiet schema rows r.sessions (r, o ∷ []) (opening fresh r) l g g.session g.there refl (unopened (has_conn r l.session) (Opened fresh)) (ap (λ os. os ++ []) given)
+
+  opened_on : (session fresh : List ℕ) (seats : Seats) (told : RoomOut) → ((q : List ℕ) → given_by q told ≡ []) → ((s : Session) → session_of r.sessions session ≡ Some s → is_at_rest s.stage ≡ true)
+      → StepsOn schema rows (opened_by r session fresh told (Ok seats)) (opening fresh (opened_by r session fresh told (Ok seats)).0) l
+  opened_on session fresh seats told given rests = by_name (bytes_eq session l.session) refl
+    where
+      after : RoomValue × List RoomOut
+      after = opened_by r session fresh told (Ok seats)
+
+      outs : (b : Bool) → bytes_eq session l.session ≡ b → flat_map (given_by l.session) after.1 ≡ cond b (Frame (join_frame fresh) ∷ []) [] ++ []
+      outs b e = ap₂ (λ os b. os ++ (cond b (Frame (join_frame fresh) ∷ []) [] ++ [])) (given l.session) e
+
+      by_name : (b : Bool) → bytes_eq session l.session ≡ b → StepsOn schema rows after (opening fresh after.0) l
+      by_name true e =
+          let same : session ≡ l.session = same_bytes session l.session e in
+          let now : session_of after.0.sessions l.session ≡ Some (at_stage Joining g.session) =
+          subst (λ n. session_of (change_session n (at_stage Joining) r.sessions) l.session ≡ Some (at_stage Joining g.session)) (sym same)
+          (changed_here l.session (at_stage Joining) r.sessions g.session (λ s e. refl) g.there) in
+          let rest : is_at_rest g.session.stage ≡ true = rests g.session (ap (session_of r.sessions) same ∙ g.there) in
+          let closed : has_conn r l.session ≡ false = ap (is_at is_open) g.there ∙ rests_closed g.session.stage rest in
+          let entries : opening fresh after.0 ≡ Opened fresh ∷ [] = ap₂ (λ b c. entry_if (not b && c) (Opened fresh)) closed (ap (is_at is_open) now) in
+          let os : flat_map (given_by l.session) after.1 ≡ Frame (join_frame fresh) ∷ [] = outs true e in
+          record {
+            session = at_stage Joining g.session;
+            there = now;
+            fits =
+                subst (λ es. Fits schema rows (held (at_stage Joining g.session)) (l.entries ++ es) (l.outputs ++ flat_map (given_by l.session) after.1) l.view) (sym entries)
+                (subst (λ os. Fits schema rows (held (at_stage Joining g.session)) (l.entries ++ Opened fresh ∷ []) (l.outputs ++ os) l.view) (sym os)
+                (fits_opened schema rows g.session.stage g.session fresh l.entries l.outputs l.view rest g.fits));
+          }
+      by_name false e =
+          let now : session_of after.0.sessions l.session ≡ Some g.session = changed_elsewhere session l.session (at_stage Joining) r.sessions g.session (λ s e. refl) e g.there in
+          quiet schema rows r.sessions after (opening fresh after.0) l g g.session now refl
+          (ap₂ (λ b c. entry_if (not b && c) (Opened fresh)) (ap (is_at is_open) g.there) (ap (is_at is_open) now) ∙ unopened (is_open g.session.stage) (Opened fresh)) (outs false e)
+
+  pub enter_on : (session : List ℕ) (token : Option (List ℕ)) (fresh : List ℕ) → Placed r → StepsOn schema rows (after_enter r session token fresh) (opening fresh (after_enter r session token fresh).0) l
+  enter_on session token fresh p =
+      enter_cases (λ x. StepsOn schema rows x (opening fresh x.0) l) r session fresh p
+      (refused fresh (out.TokenInUse session) refl) (refused fresh (out.NoSeat session) refl) (opened_on session fresh) token

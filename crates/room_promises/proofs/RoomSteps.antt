@@ -1,0 +1,124 @@
+-- What holds of a room at each point of a run, and after each event.
+use Rattle.std.proofs.Common.{◌≡◌, ℕ, Bool, true, false, cond, List, [], ◌∷◌, Option, Some, None, Result, Ok, Err, refl, sym, ap, subst, ◌∙◌, zero-le}
+use Rattle.std.specs.Option.{option_map}
+use Rattle.lists.proofs.SameBytes.{same_bytes}
+use Rattle.schema_model.specs.Classes.{Schema, is_kept}
+use Rattle.state_model.specs.declared.command.Command.{Command}
+use Rattle.state_model.specs.declared.command.TableFault.{TableFault}
+use Rattle.state_model.specs.State.{State, new_state, swept}
+use Rattle.state_model.specs.Shown.{shared}
+use Rattle.state_model.specs.Commands.{do_command}
+use Rattle.command_laws.specs.Worded.{is_worded_command}
+use Rattle.frame_model.specs.declared.frame.ClientFrame.TheVariants as client
+use Rattle.room_model.specs.declared.definition.RoomDef.{RoomDef}
+use Rattle.room_model.specs.declared.event.Act.TheVariants as act
+use Rattle.room_model.specs.declared.event.RoomEvent.{RoomEvent}
+use Rattle.room_model.specs.declared.event.RoomEvent.TheVariants as event
+use Rattle.room_model.specs.declared.event.RoomOut.{RoomOut}
+use Rattle.room_model.specs.declared.refusal.Refusal.{Refusal}
+use Rattle.room_model.specs.Sessions.{Session, Acted, session_of, is_connected, view_added_to, view_removed_from}
+use Rattle.room_model.specs.Room.{RoomValue, new_room, room_step, where_connected, after_read, after_frame, after_enter, after_answer, acted_on}
+use Rattle.room_laws.specs.Ledgers.{Within}
+use Rattle.room_laws.specs.Placed.{Placed}
+use Rattle.room_laws.specs.Places.{may_happen}
+use Rattle.room_laws.proofs.RoomPlaces.{step_keeps}
+use Rattle.room_laws.proofs.RoomPlaced.{step_placed, new_placed}
+use Rattle.room_like.specs.Taken.{is_taken, is_acknowledgement}
+use Rattle.room_promises.specs.RoomPromises.{is_worded_event}
+use Rattle.room_promises.proofs.Openings.{enter_cases}
+use Rattle.room_promises.proofs.StateFacts.{GoodStates, new_states, command_states, swept_states}
+
+-- a room of the schema: its places and sessions tell the same, and its state is a later one than that of the last tick
+pub record GoodRoom (schema : Schema) (last : State) (r : RoomValue) : Type 0 where
+  pub schema_is : r.schema ≡ schema
+  pub placed : Placed r
+  pub within : Within r.seats
+  pub states : GoodStates schema last r.state
+  pub shared_is : r.shared ≡ shared schema last.rows
+
+-- a new room
+pub new_good : (schema : Schema) (def : RoomDef) (criteria : List (List ℕ)) → is_kept schema ≡ true → GoodRoom schema (new_state schema) (new_room schema def criteria)
+new_good schema def criteria kept = record { schema_is = refl; placed = new_placed schema def criteria; within = zero-le; states = new_states schema kept; shared_is = refl }
+
+-- an event is a tick
+abbrev pub is_tick : RoomEvent → Bool
+is_tick event.Tick = true
+is_tick e = false
+
+-- ---- events that leave the state as it is
+
+record Same (r t : RoomValue) : Type 0 where
+  schema : t.schema ≡ r.schema
+  state : t.state ≡ r.state
+  shared : t.shared ≡ r.shared
+
+same_room : (r : RoomValue) → Same r r
+same_room r = record { schema = refl; state = refl; shared = refl }
+
+same_entered : (r : RoomValue) (session : List ℕ) (token : Option (List ℕ)) (fresh : List ℕ) → Placed r → Same r (after_enter r session token fresh).0
+same_entered r session token fresh p =
+    enter_cases (λ x. Same r x.0) r session fresh p (same_room r) (same_room r) (λ seats told given rests. record { schema = refl; state = refl; shared = refl }) token
+
+same_acknowledged : (r : RoomValue) (id : List ℕ) (o : Option Session) → Same r (where_connected r o (λ s. after_read r id (Ok client.Ack))).0
+same_acknowledged r id None = same_room r
+same_acknowledged r id (Some s) =
+    let go : (b : Bool) → Same r (let x : RoomValue × List RoomOut = cond b (after_read r id (Ok client.Ack)) (r, []) in x).0 = elim [ true ↦ record { schema = refl; state = refl; shared = refl } | false ↦ same_room r ] in
+    go (is_connected s.stage)
+
+same_framed : (r : RoomValue) (id bytes : List ℕ) → is_acknowledgement bytes ≡ true → Same r (after_frame r id bytes).0
+same_framed r id bytes is = subst (λ bs. Same r (after_frame r id bs).0) (sym (same_bytes bytes (10 ∷ []) is)) (same_acknowledged r id (session_of r.sessions id))
+
+same_acted : (r : RoomValue) (id : List ℕ) (x : Option (Result Acted Refusal)) → Same r (acted_on r id x).0
+same_acted r id None = same_room r
+same_acted r id (Some (Err f)) = same_room r
+same_acted r id (Some (Ok a)) = record { schema = refl; state = refl; shared = refl }
+
+stays_good : (schema : Schema) (last : State) (r t : RoomValue) → GoodRoom schema last r → Placed t → Within t.seats → Same r t → GoodRoom schema last t
+stays_good schema last r t g placed within same = record {
+  schema_is = same.schema ∙ g.schema_is;
+  placed = placed;
+  within = within;
+  states = subst (λ (s : State). GoodStates schema last s) (sym same.state) g.states;
+  shared_is = same.shared ∙ g.shared_is;
+}
+
+-- ---- a command
+
+answered_good : (schema : Schema) (last : State) (r : RoomValue) (c : Command) (x : Result (State × Option ℕ) TableFault) → is_kept schema ≡ true → is_worded_command c ≡ true → GoodRoom schema last r → do_command schema r.state c ≡ x
+    → Placed (after_answer r x).0 → Within (after_answer r x).0.seats → GoodRoom schema last (after_answer r x).0
+answered_good schema last r c (Ok x) kept words g does placed within = record {
+  schema_is = g.schema_is;
+  placed = placed;
+  within = within;
+  states = command_states schema last r.state c x.0 x.1 kept words g.states does;
+  shared_is = g.shared_is;
+}
+answered_good schema last r c (Err f) kept words g does placed within = g
+
+-- ---- a tick
+
+pub tick_good : (schema : Schema) (last : State) (r : RoomValue) → GoodRoom schema last r → GoodRoom schema (swept r.state) (room_step r event.Tick).0
+tick_good schema last r g = record {
+  schema_is = g.schema_is;
+  placed = step_placed r event.Tick g.placed refl;
+  within = (step_keeps r event.Tick g.within refl).0;
+  states = swept_states schema last r.state g.states;
+  shared_is = ap (λ s. shared s (swept r.state).rows) g.schema_is;
+}
+
+-- ---- any event but a tick
+
+pub step_good : (schema : Schema) (last : State) (r : RoomValue) (e : RoomEvent) → is_kept schema ≡ true → is_tick e ≡ false → is_taken e ≡ true → is_worded_event e ≡ true → may_happen r e ≡ true → GoodRoom schema last r
+    → GoodRoom schema last (room_step r e).0
+step_good schema last r e kept other taken words may g = by_event e other taken words (step_placed r e g.placed may) (step_keeps r e g.within may).0
+  where
+    by_event : (e : RoomEvent) → is_tick e ≡ false → is_taken e ≡ true → is_worded_event e ≡ true → Placed (room_step r e).0 → Within (room_step r e).0.seats → GoodRoom schema last (room_step r e).0
+    by_event (event.Reserve session lapse) other taken words placed within = stays_good schema last r _ g placed within (record { schema = refl; state = refl; shared = refl })
+    by_event (event.Enter session token fresh) other taken words placed within = stays_good schema last r _ g placed within (same_entered r session token fresh g.placed)
+    by_event (event.Frame session bytes) other taken words placed within = stays_good schema last r _ g placed within (same_framed r session bytes taken)
+    by_event (event.Act (act.State c)) other taken words placed within =
+        answered_good schema last r c (do_command r.schema r.state c) kept words g (ap (λ s. do_command s r.state c) (sym g.schema_is)) placed within
+    by_event (event.Act (act.ViewAdd id pair)) other taken words placed within = stays_good schema last r _ g placed within (same_acted r id (option_map (view_added_to r.schema r.state.rows pair) (session_of r.sessions id)))
+    by_event (event.Act (act.ViewDel id pair)) other taken words placed within = stays_good schema last r _ g placed within (same_acted r id (option_map (view_removed_from r.schema r.state.rows pair) (session_of r.sessions id)))
+    by_event event.Tick other taken words placed within = cc
+    by_event e other taken words placed within = cc

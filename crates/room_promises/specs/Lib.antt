@@ -1,0 +1,2 @@
+pub mod RoomLives
+pub mod RoomPromises

@@ -1,0 +1,6 @@
+//! The three promises of a room, for every list of events that it takes.
+#![tactic(auto)]
+
+pub mod rooms;
+
+pub use rooms::{equal_records_equal_bytes, rooms_keep};
