@@ -111,7 +111,7 @@ text_changed schema rows c h next row rise stands names fit = by_test (is_clear 
     by_test false t = omega (arith, sum, edited_text schema rows c next row t fit)
 
 -- the places stay within the limit
-places_within : (schema : Schema) (rows : List RowEntry) (c : Command) (row : Row) → IsFit schema rows c row → (adds_place c (Some row) && nat_le places_limit (place_count rows)) ≡ false → place_count rows ≤ places_limit
+pub places_within : (schema : Schema) (rows : List RowEntry) (c : Command) (row : Row) → IsFit schema rows c row → (adds_place c (Some row) && nat_le places_limit (place_count rows)) ≡ false → place_count rows ≤ places_limit
     → places_after c row (place_count rows) ≤ places_limit
 places_within schema rows c row fit left few = by_test (is_clear c) (is_some (value_put c)) refl (is_some (replaced c row)) refl
   where

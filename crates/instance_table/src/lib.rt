@@ -29,3 +29,4 @@ mod walk;
 mod worded;
 
 pub use table::Table;
+pub use worded::know_texts;

@@ -17,7 +17,7 @@ use Rattle.wire_model.specs.Frame.{full_state, state_frame, has_operation}
 use Rattle.wire_model.specs.Decoded.{seen, after_frame}
 use Rattle.plain_rows.specs.Numbers.{is_number_schema, number_count, AreNumberRows, number_rows}
 use Rattle.plain_rows.proofs.NumberViews.{permitted_number_rows}
-use Rattle.plain_rows.proofs.NumberCommands.{numbers_put}
+use Rattle.plain_rows.proofs.NumberCommands.{put_number, numbers_put}
 use Rattle.number_laws.proofs.NumbersRead.{number_rows_read, unchanged_rows}
 use Rattle.frame_model.specs.Frames.{server_bytes}
 use Rattle.frame_model.specs.declared.frame.ServerFrame.TheVariants as server
@@ -32,15 +32,12 @@ use Rattle.life_model.specs.Entries.{Entry, Asked, Opened, Framed, Ticked, Sendi
 use Rattle.life_model.specs.Lives.{run_step}
 use Rattle.life_model.specs.Promises.{latest_frames, with_sending}
 use Rattle.life_model.specs.Sent.{Progress, progress_of, after_entry, life_start, full_frame}
-use Rattle.room_core.specs.declared.place.Phase.{Phase}
-use Rattle.room_core.specs.declared.place.Phase.TheVariants.{Empty, Reserved, Joining, Due, Live}
-use Rattle.room_core.specs.Steps.{ticked_phase, put_number, phase_outs}
-use Rattle.room_core.specs.Takes.{is_number_put}
-use Rattle.room_core.specs.Values.{patch_of}
-use Rattle.room_core.proofs.RoomSteps.{tick_room, put_room, enter_both, frame_both}
+use Rattle.life_laws.specs.NumberPuts.{is_number_put}
 use Rattle.life_laws.specs.Courses.{is_turn}
-use Rattle.life_laws.proofs.Points.{Setting, Point, Good, Decodes, room_in, own_conn, conns_in, criteria_of, run_in, event_in, is_joined, progress_in}
-use Rattle.life_laws.proofs.RunSteps.{point, own_reservation, at_step, room_event, tick_step, tick_gives, tick_recorded, tick_sendings, sending_of, command_step, opening, opening_here, opening_step, acknowledgement, acknowledgement_here, acknowledgement_step, reply_in}
+use Rattle.life_laws.proofs.Phases.{Phase, Reserved, Joining, Due, Live, ticked_phase, patch_of}
+use Rattle.life_laws.proofs.RoomSteps.{enter_room, frame_room, tick_room, put_room}
+use Rattle.life_laws.proofs.Points.{Setting, Point, Good, Decodes, room_in, own_conn, conns_in, criteria_of, run_in, event_in, progress_in}
+use Rattle.life_laws.proofs.RunSteps.{point, at_step, room_event, tick_step, tick_recorded, tick_sendings, sending_of, command_step, opening, opening_here, opening_step, acknowledgement, acknowledgement_here, acknowledgement_step, reply_in}
 
 -- ---- records and frames, with more behind them
 
@@ -86,7 +83,6 @@ root_is_number schema h = record {
 pub good_at : (s : Setting) (p : Point) (ms : ℕ) → Good s p
     → Good s (point (max p.now (moment_of ms)) p.phase p.rows p.shared p.token p.lapse (p.entries ++ []) (p.outputs ++ []))
 good_at s p ms g = record {
-  joined = g.joined;
   rows_are = g.rows_are;
   shared_are = g.shared_are;
   progress = unrecorded s.schema p.entries p.phase p.shared p.outputs g.progress;
@@ -104,26 +100,14 @@ after_ticking s p =
     point p.now (ticked_phase p.phase) p.rows p.rows p.token p.lapse (p.entries ++ tick_recorded p.phase p.rows)
     (p.outputs ++ tick_sendings p.phase (full_of s p.rows) (patch_of s.schema p.shared p.rows))
 
--- what the room gives is the full state or the patch
-gives_frames : (phase : Phase) (schema : Schema) (shared rows : List RowEntry) (session : List ℕ)
-    → phase_outs phase schema shared rows session ≡ tick_gives phase (full_frame schema rows rows) (patch_of schema shared rows) session
-gives_frames Empty schema shared rows session = refl
-gives_frames Reserved schema shared rows session = refl
-gives_frames Joining schema shared rows session = refl
-gives_frames Due schema shared rows session = refl
-gives_frames Live schema shared rows session = refl
-
 tick_runs : (s : Setting) (p : Point) → is_number_schema s.schema ≡ true → Good s p
     → run_step s.schema (run_in s p) (event.Tick s.room) ≡ run_in s (after_ticking s p)
 tick_runs s p numbers g =
-    let room = room_in s p.phase p.rows p.shared p.token p.lapse in
-    let step = tick_room p.phase s.schema s.def (criteria_of s) p.rows p.shared s.session p.token p.lapse numbers g.rows_are in
     room_event s p (conns_in s p.phase) (event.Tick s.room) happened.Tick refl
-    ∙ (ap (event_in s p (conns_in s p.phase) (event.Tick s.room)) step
-    ∙ (ap (λ outs. event_in s p (conns_in s p.phase) (event.Tick s.room) (room_in s (ticked_phase p.phase) p.rows p.rows p.token p.lapse, outs))
-    (gives_frames p.phase s.schema p.shared p.rows s.session)
+    ∙ (ap (event_in s p (conns_in s p.phase) (event.Tick s.room))
+    (tick_room p.phase s.schema s.def (criteria_of s) p.rows p.shared s.session p.token p.lapse numbers g.rows_are)
     ∙ tick_step s p.now p.phase p.rows p.shared p.token p.lapse p.entries p.outputs (full_of s p.rows) (patch_of s.schema p.shared p.rows)
-    g.joined (permitted_number_rows s.schema p.rows [] numbers g.rows_are)))
+    (permitted_number_rows s.schema p.rows [] numbers g.rows_are))
 
 -- the record of the tick is sent what the room gives
 patch_sent : (b : Bool) (bytes : List ℕ) → sending_of (cond b (Some bytes) None) ≡ cond b (Frame bytes ∷ []) []
@@ -134,7 +118,6 @@ tick_progress : (schema : Schema) (phase : Phase) (rows shared : List RowEntry) 
     → progress_of schema entries ≡ progress_in phase shared outputs
     → progress_of schema (entries ++ tick_recorded phase rows)
     ≡ progress_in (ticked_phase phase) rows (outputs ++ tick_sendings phase (full_frame schema rows rows) (patch_of schema shared rows))
-tick_progress schema Empty rows shared entries outputs h = unrecorded schema entries Empty shared outputs h
 tick_progress schema Reserved rows shared entries outputs h = unrecorded schema entries Reserved shared outputs h
 tick_progress schema Joining rows shared entries outputs h = unrecorded schema entries Joining shared outputs h
 tick_progress schema Due rows shared entries outputs h = recorded schema entries (Ticked rows rows) _ _ h refl
@@ -158,7 +141,6 @@ decodes_patch schema rows shared outputs false numbers n m h is =
 tick_decodes : (schema : Schema) (phase : Phase) (rows shared : List RowEntry) (outputs : List Sending) → is_number_schema schema ≡ true
     → AreNumberRows schema rows → AreNumberRows schema shared → Decodes schema phase shared outputs
     → Decodes schema (ticked_phase phase) rows (outputs ++ tick_sendings phase (full_frame schema rows rows) (patch_of schema shared rows))
-tick_decodes schema Empty rows shared outputs numbers n m h = tt
 tick_decodes schema Reserved rows shared outputs numbers n m h = tt
 tick_decodes schema Joining rows shared outputs numbers n m h = tt
 tick_decodes schema Due rows shared outputs numbers n m h =
@@ -167,16 +149,8 @@ tick_decodes schema Due rows shared outputs numbers n m h =
 tick_decodes schema Live rows shared outputs numbers n m h =
     decodes_patch schema rows shared outputs (has_operation schema shared shared rows rows) numbers n m h refl
 
-still_joined : (phase : Phase) → is_joined phase ≡ true → is_joined (ticked_phase phase) ≡ true
-still_joined Empty h = cc
-still_joined Reserved h = refl
-still_joined Joining h = refl
-still_joined Due h = refl
-still_joined Live h = refl
-
 good_tick : (s : Setting) (p : Point) → is_number_schema s.schema ≡ true → Good s p → Good s (after_ticking s p)
 good_tick s p numbers g = record {
-  joined = still_joined p.phase g.joined;
   rows_are = g.rows_are;
   shared_are = g.rows_are;
   progress = tick_progress s.schema p.phase p.rows p.shared p.entries p.outputs g.progress;
@@ -221,12 +195,11 @@ put_runs s p c q numbers g =
     ∙ (room_event s p (conns_in s p.phase) (e put) (happened.Act (act.State put)) refl
     ∙ (ap (event_in s p (conns_in s p.phase) (e put))
     (put_room p.phase s.schema s.def (criteria_of s) p.rows p.shared g.rows_are.fields s.session p.token p.lapse q.field q.whole numbers g.rows_are.alone g.rows_are.numbers q.below q.fits)
-    ∙ command_step s p.now p.phase p.rows p.shared after p.token p.lapse p.entries p.outputs put g.joined))
+    ∙ command_step s p.now p.phase p.rows p.shared after p.token p.lapse p.entries p.outputs put))
 
 good_put : (s : Setting) (p : Point) (c : Command) (q : IsPut (number_count s.schema) c) → (g : Good s p)
     → Good s (after_put p (number_rows (put_number q.field q.whole g.rows_are.fields)))
 good_put s p c q g = record {
-  joined = g.joined;
   rows_are = record {
     fields = put_number q.field q.whole g.rows_are.fields;
     alone = refl;
@@ -266,7 +239,7 @@ is_put count c h = cc
 pub turn_step : (s : Setting) (p : Point) (e : HubEvent) → is_number_schema s.schema ≡ true → Good s p → is_turn (number_count s.schema) s.room e ≡ true → OneEvent s p e
 turn_step s p (event.At now) numbers g h = (
   point (max p.now (moment_of now)) p.phase p.rows p.shared p.token p.lapse (p.entries ++ []) (p.outputs ++ []),
-  at_step s p.now p.phase p.rows p.shared p.token p.lapse p.entries p.outputs now g.joined,
+  at_step s p.now p.phase p.rows p.shared p.token p.lapse p.entries p.outputs now,
   good_at s p now g,
   inl refl,
 )
@@ -284,7 +257,6 @@ request_point s now body =
 
 pub good_request : (s : Setting) (now : ℕ) (body : List ℕ) → is_number_schema s.schema ≡ true → Good s (request_point s now body)
 good_request s now body numbers = record {
-  joined = refl;
   rows_are = root_is_number s.schema numbers;
   shared_are = root_is_number s.schema numbers;
   progress = refl;
@@ -306,22 +278,19 @@ opened_step s p fresh g is = (after_opening p fresh, by_phase p.phase is, good p
         room_event s (point p.now Reserved p.rows p.shared p.token p.lapse p.entries p.outputs) (own_conn s ∷ []) (opening s fresh) (happened.Enter s.session None fresh)
         (opening_here s p.now p.rows p.shared p.token p.lapse fresh)
         ∙ (ap (event_in s (point p.now Reserved p.rows p.shared p.token p.lapse p.entries p.outputs) (own_conn s ∷ []) (opening s fresh))
-        (enter_both s.schema s.def (criteria_of s) p.rows p.shared Reserved s.session p.token s.session p.lapse fresh (own_reservation s p.lapse))
+        (enter_room s.schema s.def (criteria_of s) p.rows p.shared s.session p.token p.lapse fresh)
         ∙ opening_step s p.now p.rows p.shared p.token p.lapse p.entries p.outputs fresh)
-    by_phase Empty is = cc
     by_phase Joining is = cc
     by_phase Due is = cc
     by_phase Live is = cc
 
     good : (phase : Phase) → phase ≡ Reserved → progress_of s.schema p.entries ≡ progress_in phase p.shared p.outputs → Good s (after_opening p fresh)
     good Reserved is h = record {
-      joined = refl;
       rows_are = g.rows_are;
       shared_are = g.shared_are;
       progress = recorded s.schema p.entries (Opened fresh) _ _ h refl;
       decodes = tt;
     }
-    good Empty is h = cc
     good Joining is h = cc
     good Due is h = cc
     good Live is h = cc
@@ -342,22 +311,19 @@ acknowledged_step s p g is = (after_acknowledgement p, by_phase p.phase is, good
         room_event s (point p.now Joining p.rows p.shared p.token p.lapse p.entries p.outputs) (own_conn s ∷ []) (acknowledgement s) (happened.Frame s.session (10 ∷ []))
         (acknowledgement_here s p.now room)
         ∙ (ap (event_in s (point p.now Joining p.rows p.shared p.token p.lapse p.entries p.outputs) (own_conn s ∷ []) (acknowledgement s))
-        (frame_both s.schema s.def (criteria_of s) p.rows p.shared Joining s.session s.session p.token (10 ∷ []) p.lapse refl refl)
+        (frame_room s.schema s.def (criteria_of s) p.rows p.shared s.session p.token p.lapse)
         ∙ acknowledgement_step s p.now p.rows p.shared p.token p.lapse p.entries p.outputs)
-    by_phase Empty is = cc
     by_phase Reserved is = cc
     by_phase Due is = cc
     by_phase Live is = cc
 
     good : (phase : Phase) → phase ≡ Joining → progress_of s.schema p.entries ≡ progress_in phase p.shared p.outputs → Good s (after_acknowledgement p)
     good Joining is h = record {
-      joined = refl;
       rows_are = g.rows_are;
       shared_are = g.shared_are;
       progress = recorded s.schema p.entries (Framed (10 ∷ [])) _ _ h refl;
       decodes = tt;
     }
-    good Empty is h = cc
     good Reserved is h = cc
     good Due is h = cc
     good Live is h = cc

@@ -13,10 +13,8 @@ use Rattle.hub_model.specs.Hub.{HubRoom, moment_of}
 use Rattle.life_model.specs.Lives.{Life, Run, run_step, is_live}
 use Rattle.life_model.specs.Promises.{Keeps, latest_frames}
 use Rattle.life_model.specs.Sent.{sent, Progress}
-use Rattle.room_core.specs.declared.place.Phase.{Phase}
-use Rattle.room_core.specs.declared.place.Phase.TheVariants.{Empty, Reserved, Joining, Due, Live}
-use Rattle.room_core.specs.Steps.{ticked_phase}
 use Rattle.life_laws.specs.Courses.{CoursesKeep, ask_of, opening_of, acknowledgement_of, is_turn}
+use Rattle.life_laws.proofs.Phases.{Phase, Reserved, Joining, Due, Live, ticked_phase}
 use Rattle.life_laws.proofs.Points.{Setting, Point, Good, Decodes, run_in, hub_in, life_in}
 use Rattle.life_laws.proofs.RunSteps.{point, before_request, request_step}
 use Rattle.life_laws.proofs.GoodSteps.{turn_step, request_point, good_request, opened_step, acknowledged_step}
@@ -38,7 +36,6 @@ live_in s p = by_phase p.phase
   where
     by_phase : (phase : Phase) → (let q = point p.now phase p.rows p.shared p.token p.lapse p.entries p.outputs in
         is_live (hub_in s q) (life_in s q) ≡ is_live_phase phase)
-    by_phase Empty = rw (bytes_eq_self s.room) refl
     by_phase Reserved = rw (bytes_eq_self s.room, bytes_eq_self s.session) refl
     by_phase Joining = rw (bytes_eq_self s.room, bytes_eq_self s.session) refl
     by_phase Due = rw (bytes_eq_self s.room, bytes_eq_self s.session) refl
@@ -47,7 +44,6 @@ live_in s p = by_phase p.phase
 decoded_live : (schema : Schema) (phase : Phase) (p : Point) → Decodes schema phase p.shared p.outputs → is_live_phase phase ≡ true
     → seen schema (latest_frames p.outputs) ≡ Ok p.shared
 decoded_live schema Live p h live = h
-decoded_live schema Empty p h live = cc
 decoded_live schema Reserved p h live = cc
 decoded_live schema Joining p h live = cc
 decoded_live schema Due p h live = cc
@@ -58,7 +54,6 @@ within_places s p place = by_phase p.phase
   where
     by_phase : (phase : Phase) → (let q = point p.now phase p.rows p.shared p.token p.lapse p.entries p.outputs in
         (x : HubRoom) → Contains (hub_in s q).rooms x → in_use x.room.seats ≤ x.room.seats.max)
-    by_phase Empty x c = subst (λ (r : HubRoom). in_use r.room.seats ≤ r.room.seats.max) (sym (only_one _ x c)) (omega arith)
     by_phase Reserved x c = subst (λ (r : HubRoom). in_use r.room.seats ≤ r.room.seats.max) (sym (only_one _ x c)) place
     by_phase Joining x c = subst (λ (r : HubRoom). in_use r.room.seats ≤ r.room.seats.max) (sym (only_one _ x c)) place
     by_phase Due x c = subst (λ (r : HubRoom). in_use r.room.seats ≤ r.room.seats.max) (sym (only_one _ x c)) place

@@ -1,3 +1,5 @@
+pub mod Phases
+pub mod RoomSteps
 pub mod Points
 pub mod RunSteps
 pub mod GoodSteps

@@ -1,5 +1,5 @@
 -- A run of one room and one client over a row of numbers, by how far it is.
-use Rattle.std.proofs.Common.{◌≡◌, ℕ, Bool, true, false, List, [], ◌∷◌, map, Ok}
+use Rattle.std.proofs.Common.{◌≡◌, ℕ, true, List, [], ◌∷◌, map, Ok}
 use Rattle.schema_model.specs.Classes.{Schema}
 use Rattle.state_model.specs.declared.row.RowEntry.{RowEntry}
 use Rattle.wire_model.specs.Decoded.{seen}
@@ -15,9 +15,7 @@ use Rattle.life_model.specs.Lives.{Life, Run, run_with}
 use Rattle.life_model.specs.Promises.{latest_frames}
 use Rattle.life_model.specs.Sent.{Standing, Progress, progress_of}
 use Rattle.life_model.specs.Sent as sent
-use Rattle.room_core.specs.declared.place.Phase.{Phase}
-use Rattle.room_core.specs.declared.place.Phase.TheVariants.{Empty, Reserved, Joining, Due, Live}
-use Rattle.room_core.specs.Values.{room_at}
+use Rattle.life_laws.proofs.Phases.{Phase, Reserved, Joining, Due, Live, room_at}
 
 -- what stays the same over a run
 pub record Setting : Type 0 where
@@ -80,7 +78,6 @@ event_in s p conns e step = run_with (run_in s p) e (hub_with s p.now conns step
 
 -- the standing to which the record leads
 abbrev pub standing_in : Phase → List RowEntry → Standing
-standing_in Empty shared = sent.Gone
 standing_in Reserved shared = sent.Reserved
 standing_in Joining shared = sent.Joining []
 standing_in Due shared = sent.Due []
@@ -94,13 +91,7 @@ abbrev pub Decodes : Schema → Phase → List RowEntry → List Sending → Typ
 Decodes schema Live shared outputs = seen schema (latest_frames outputs) ≡ Ok shared
 Decodes schema phase shared outputs = Unit {0}
 
--- the session is there
-abbrev pub is_joined : Phase → Bool
-is_joined Empty = false
-is_joined phase = true
-
 pub record Good (s : Setting) (p : Point) : Type 0 where
-  pub joined : is_joined p.phase ≡ true
   pub rows_are : AreNumberRows s.schema p.rows
   pub shared_are : AreNumberRows s.schema p.shared
   pub progress : progress_of s.schema p.entries ≡ progress_in p.phase p.shared p.outputs

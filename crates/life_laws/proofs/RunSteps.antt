@@ -1,5 +1,5 @@
 -- What each event makes of a run of one room and one client over a row of numbers.
-use Rattle.std.proofs.Common.{◌≡◌, ℕ, ◌+◌, true, List, [], ◌∷◌, ◌++◌, max, Option, Some, None, refl, ap, ◌∙◌}
+use Rattle.std.proofs.Common.{◌≡◌, ℕ, ◌+◌, List, [], ◌∷◌, ◌++◌, max, Option, Some, None, refl, ap, ◌∙◌}
 use Rattle.std.proofs.lemmas.Bool.{eq-eqb}
 use Rattle.std.specs.List.{flat_map}
 use Rattle.lists.proofs.SameBytes.{bytes_eq_self}
@@ -10,21 +10,15 @@ use Rattle.state_model.specs.Shown.{permitted}
 use Rattle.room_model.specs.declared.event.Act.TheVariants as act
 use Rattle.room_model.specs.declared.event.RoomEvent.{RoomEvent}
 use Rattle.room_model.specs.declared.event.RoomEvent.TheVariants as happened
-use Rattle.room_model.specs.declared.event.RoomOut.{RoomOut}
-use Rattle.room_model.specs.declared.event.RoomOut.TheVariants as out
 use Rattle.room_model.specs.Room.{RoomValue, room_step, join_frame}
-use Rattle.room_model.specs.Seats.{has_reservation}
 use Rattle.hub_model.specs.declared.event.HubEvent.{HubEvent}
 use Rattle.hub_model.specs.declared.event.HubEvent.TheVariants as event
 use Rattle.hub_model.specs.Hub.{HubConn, hub_step, room_stepped, moment_of, told_out}
 use Rattle.hub_model.specs.Replies.{opening_target, join_or_create_target, reply_text}
 use Rattle.life_model.specs.Entries.{Entry, Asked, Opened, Framed, Ticked, Sending, Frame}
 use Rattle.life_model.specs.Lives.{Run, run_step, run_with}
-use Rattle.room_core.specs.declared.place.Phase.{Phase}
-use Rattle.room_core.specs.declared.place.Phase.TheVariants.{Empty, Reserved, Joining, Due, Live}
-use Rattle.room_core.specs.Steps.{enter_outs, ticked_phase, sent_to}
-use Rattle.room_core.specs.Values.{reserved_seats}
-use Rattle.life_laws.proofs.Points.{Setting, Point, room_in, own_conn, conns_in, hub_with, hub_in, run_in, event_in, is_joined}
+use Rattle.life_laws.proofs.Phases.{Phase, Reserved, Joining, Due, Live, ticked_phase, enter_outs, tick_gives}
+use Rattle.life_laws.proofs.Points.{Setting, Point, room_in, own_conn, conns_in, hub_with, hub_in, run_in, event_in}
 
 -- a point by its parts
 abbrev pub point : ℕ → Phase → List RowEntry → List RowEntry → List ℕ → ℕ → List Entry → List Sending → Point
@@ -34,14 +28,12 @@ point now phase rows shared token lapse entries outputs =
 -- ---- a moment
 
 pub at_step : (s : Setting) (now : ℕ) (phase : Phase) (rows shared : List RowEntry) (token : List ℕ) (lapse : ℕ) (entries : List Entry) (outputs : List Sending) (ms : ℕ)
-    → is_joined phase ≡ true
     → run_step s.schema (run_in s (point now phase rows shared token lapse entries outputs)) (event.At ms)
     ≡ run_in s (point (max now (moment_of ms)) phase rows shared token lapse (entries ++ []) (outputs ++ []))
-at_step s now Empty rows shared token lapse entries outputs ms h = cc
-at_step s now Reserved rows shared token lapse entries outputs ms h = rw (bytes_eq_self s.room, bytes_eq_self s.session) refl
-at_step s now Joining rows shared token lapse entries outputs ms h = rw (bytes_eq_self s.room, bytes_eq_self s.session) refl
-at_step s now Due rows shared token lapse entries outputs ms h = rw (bytes_eq_self s.room, bytes_eq_self s.session) refl
-at_step s now Live rows shared token lapse entries outputs ms h = rw (bytes_eq_self s.room, bytes_eq_self s.session) refl
+at_step s now Reserved rows shared token lapse entries outputs ms = rw (bytes_eq_self s.room, bytes_eq_self s.session) refl
+at_step s now Joining rows shared token lapse entries outputs ms = rw (bytes_eq_self s.room, bytes_eq_self s.session) refl
+at_step s now Due rows shared token lapse entries outputs ms = rw (bytes_eq_self s.room, bytes_eq_self s.session) refl
+at_step s now Live rows shared token lapse entries outputs ms = rw (bytes_eq_self s.room, bytes_eq_self s.session) refl
 
 -- ---- an event of the room
 
@@ -59,12 +51,6 @@ room_event s p conns e r h =
 
 -- ---- a tick
 
--- what the room gives at a tick, by the bytes of the full state and of the patch
-abbrev pub tick_gives : Phase → List ℕ → Option (List ℕ) → List ℕ → List RoomOut
-tick_gives Due full patch session = out.Send session full ∷ []
-tick_gives Live full patch session = sent_to session patch
-tick_gives phase full patch session = []
-
 -- what a life records of it, and is sent
 abbrev pub tick_recorded : Phase → List RowEntry → List Entry
 tick_recorded Due rows = Ticked rows rows ∷ []
@@ -81,31 +67,29 @@ tick_sendings Live full patch = sending_of patch
 tick_sendings phase full patch = []
 
 pub tick_step : (s : Setting) (now : ℕ) (phase : Phase) (rows shared : List RowEntry) (token : List ℕ) (lapse : ℕ) (entries : List Entry) (outputs : List Sending)
-    (full : List ℕ) (patch : Option (List ℕ)) → is_joined phase ≡ true → permitted s.schema rows [] ≡ rows
+    (full : List ℕ) (patch : Option (List ℕ)) → permitted s.schema rows [] ≡ rows
     → event_in s (point now phase rows shared token lapse entries outputs) (conns_in s phase) (event.Tick s.room)
     (room_in s (ticked_phase phase) rows rows token lapse, tick_gives phase full patch s.session)
     ≡ run_in s (point now (ticked_phase phase) rows rows token lapse (entries ++ tick_recorded phase rows) (outputs ++ tick_sendings phase full patch))
-tick_step s now Empty rows shared token lapse entries outputs full patch h all = cc
-tick_step s now Reserved rows shared token lapse entries outputs full patch h all = rw (bytes_eq_self s.room, bytes_eq_self s.session, all) refl
-tick_step s now Joining rows shared token lapse entries outputs full patch h all = rw (bytes_eq_self s.room, bytes_eq_self s.session, all) refl
-tick_step s now Due rows shared token lapse entries outputs full patch h all =
+tick_step s now Reserved rows shared token lapse entries outputs full patch all = rw (bytes_eq_self s.room, bytes_eq_self s.session, all) refl
+tick_step s now Joining rows shared token lapse entries outputs full patch all = rw (bytes_eq_self s.room, bytes_eq_self s.session, all) refl
+tick_step s now Due rows shared token lapse entries outputs full patch all =
     rw (bytes_eq_self s.room, bytes_eq_self s.session, eq-eqb s.opener s.opener refl, bytes_eq_self s.room, bytes_eq_self s.session, all) refl
-tick_step s now Live rows shared token lapse entries outputs full None h all = rw (bytes_eq_self s.room, bytes_eq_self s.session, all) refl
-tick_step s now Live rows shared token lapse entries outputs full (Some bytes) h all =
+tick_step s now Live rows shared token lapse entries outputs full None all = rw (bytes_eq_self s.room, bytes_eq_self s.session, all) refl
+tick_step s now Live rows shared token lapse entries outputs full (Some bytes) all =
     rw (bytes_eq_self s.room, bytes_eq_self s.session, eq-eqb s.opener s.opener refl, bytes_eq_self s.room, bytes_eq_self s.session, all) refl
 
 -- ---- a command that gives nothing
 
 pub command_step : (s : Setting) (now : ℕ) (phase : Phase) (rows shared after : List RowEntry) (token : List ℕ) (lapse : ℕ) (entries : List Entry) (outputs : List Sending)
-    (command : Command) → is_joined phase ≡ true
+    (command : Command)
     → event_in s (point now phase rows shared token lapse entries outputs) (conns_in s phase) (event.Act s.room (act.State command))
     (room_in s phase after shared token lapse, [])
     ≡ run_in s (point now phase after shared token lapse (entries ++ []) (outputs ++ []))
-command_step s now Empty rows shared after token lapse entries outputs command h = cc
-command_step s now Reserved rows shared after token lapse entries outputs command h = rw (bytes_eq_self s.room, bytes_eq_self s.session) refl
-command_step s now Joining rows shared after token lapse entries outputs command h = rw (bytes_eq_self s.room, bytes_eq_self s.session) refl
-command_step s now Due rows shared after token lapse entries outputs command h = rw (bytes_eq_self s.room, bytes_eq_self s.session) refl
-command_step s now Live rows shared after token lapse entries outputs command h = rw (bytes_eq_self s.room, bytes_eq_self s.session) refl
+command_step s now Reserved rows shared after token lapse entries outputs command = rw (bytes_eq_self s.room, bytes_eq_self s.session) refl
+command_step s now Joining rows shared after token lapse entries outputs command = rw (bytes_eq_self s.room, bytes_eq_self s.session) refl
+command_step s now Due rows shared after token lapse entries outputs command = rw (bytes_eq_self s.room, bytes_eq_self s.session) refl
+command_step s now Live rows shared after token lapse entries outputs command = rw (bytes_eq_self s.room, bytes_eq_self s.session) refl
 
 -- ---- the opening of the reservation
 
@@ -116,10 +100,6 @@ pub opening_here : (s : Setting) (now : ℕ) (rows shared : List RowEntry) (toke
     → hub_step s.schema (hub_with s now [] (room_in s Reserved rows shared token lapse)) (opening s fresh)
     ≡ room_stepped (hub_with s now (own_conn s ∷ []) (room_in s Reserved rows shared token lapse)) s.room (happened.Enter s.session None fresh)
 opening_here s now rows shared token lapse fresh = rw (bytes_eq_self (opening_target s.process s.room s.session)) refl
-
--- the session has the reservation
-pub own_reservation : (s : Setting) (lapse : ℕ) → has_reservation (reserved_seats s.def.max s.session lapse) s.session ≡ true
-own_reservation s lapse = rw (bytes_eq_self s.session) refl
 
 pub opening_step : (s : Setting) (now : ℕ) (rows shared : List RowEntry) (token : List ℕ) (lapse : ℕ) (entries : List Entry) (outputs : List Sending) (fresh : List ℕ)
     → event_in s (point now Reserved rows shared token lapse entries outputs) (own_conn s ∷ []) (opening s fresh)
@@ -150,9 +130,6 @@ acknowledgement_step s now rows shared token lapse entries outputs =
 -- a run whose hub has no room
 abbrev pub before_request : Setting → ℕ → Run
 before_request s now = record { hub = record { now = now; process = s.process; defs = s.def ∷ []; rooms = []; conns = [] }; lives = [] }
-
-pub before_step : (s : Setting) (now ms : ℕ) → run_step s.schema (before_request s now) (event.At ms) ≡ before_request s (max now (moment_of ms))
-before_step s now ms = refl
 
 abbrev pub request : Setting → ℕ → List ℕ → HubEvent
 request s conn body = event.Ask conn (join_or_create_target s.def.name) body s.room s.session

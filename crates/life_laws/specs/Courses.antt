@@ -11,7 +11,7 @@ use Rattle.hub_model.specs.declared.event.HubEvent.{HubEvent}
 use Rattle.hub_model.specs.declared.event.HubEvent.TheVariants as event
 use Rattle.hub_model.specs.Replies.{join_or_create_target, opening_target}
 use Rattle.life_model.specs.Promises.{Promises}
-use Rattle.room_core.specs.Takes.{is_number_put}
+use Rattle.life_laws.specs.NumberPuts.{is_number_put}
 
 -- the process and the room's definition, the drawn ids; then the moments before the request, its connection and body,
 -- what comes before the opening, the opening's connection and token, what comes before the acknowledgement, and what

@@ -1,2 +1,3 @@
+pub mod NumberPuts
 pub mod Courses
 pub mod Records

@@ -1,9 +1,9 @@
 //! A room's state.
-ghost use Rattle.std.specs.Prelude.{◌≡◌, ◌+◌, true, false, Err, IfOk, IsTrue, OnOk};
+ghost use Rattle.std.specs.Prelude.{◌≡◌, ◌+◌, ◌≤◌, true, false, Err, IfOk, IsTrue, OnOk};
 ghost use Rattle.schema_model.specs.Classes.{is_kept};
 ghost use Rattle.state_model.specs.Commands.{do_command};
 ghost use Rattle.state_model.specs.Members.{pairs_behind};
-ghost use Rattle.state_model.specs.Rows.{is_live};
+ghost use Rattle.state_model.specs.Rows.{is_live, place_count};
 ghost use Rattle.state_model.specs.Spelled.{are_spelled};
 ghost use Rattle.command_laws.specs.Kept.{IsKept};
 ghost use Rattle.instance_table.specs.Behind.{places_behind};
@@ -69,6 +69,7 @@ impl LiveState {
             × (pairs.items ≡ pairs_behind (schema_of self.now) (rows_of self.now) (record { who = who; tag = tag }))) }
         ensures none { result ≡ Err ExpandFault.NoRef → is_live (rows_of self.now) who ≡ false }
         ensures cost { OnOk result (steps.new ≡ steps.old + places_behind (schema_of self.now) (rows_of self.now) who tag) }
+        ensures cost_of_none { result ≡ Err ExpandFault.NoRef → steps.new ≡ steps.old + places_behind (schema_of self.now) (rows_of self.now) who tag }
     {
         match self.table.behind(who, tag, steps)? {
             Some(numbers) => Ok(pairs_under(self.alloc, numbers.as_slice(), tag)?),
@@ -102,10 +103,12 @@ impl LiveState {
         self.table.rows()
     }
 
-    /// Frees the rows that nothing holds, before a tick is encoded. After an `Err` the state is used no more.
+    /// Frees the rows that nothing holds, before a tick is encoded. It takes at most a step for each place of the state.
+    /// After an `Err` the state is used no more.
     pub fn sweep<L: Ledger>(&mut self, steps: &mut Steps<L>) -> Result<(), Memory>
         ensures freed { OnOk result (self.new.table ≡ swept_table self.old.table) }
         ensures later { OnOk result (IsLater self.old.table.state self.new.table.state) }
+        ensures cost { steps.new ≤ steps.old + place_count (rows_of self.old) }
     {
         let _ = steps;
         self.table.sweep();

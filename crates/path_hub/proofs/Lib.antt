@@ -1,4 +1,5 @@
 pub mod PathFacts
 pub mod OpenFacts
-pub mod PutFacts
+pub mod EventFits
+pub mod HubFits
 pub mod PathPlays

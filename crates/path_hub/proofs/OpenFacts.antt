@@ -25,8 +25,8 @@ open_outs p schema now None None conn fresh none fits = refl
 open_outs p schema now (Some h) None conn fresh none fits =
     let target = opening_target p.process p.room p.session in
     let seat : Option Reservation → Option (List ℕ × List ℕ) = λ o. option_map_or Some (option_map (λ (s : Reservation). (p.room, s.session)) o) None in
-    let found = ap (λ rs. seat (find (λ (s : Reservation). bytes_eq target (opening_target p.process p.room s.session)) rs)) fits.1.reserved
-    ∙ ap (λ b. seat (cond b (Some (record { session = p.session; lapse = fits.1.lapse })) None)) (bytes_eq_self target) in
+    let found = ap (λ rs. seat (find (λ (s : Reservation). bytes_eq target (opening_target p.process p.room s.session)) rs)) fits.reserved
+    ∙ ap (λ b. seat (cond b (Some (record { session = p.session; lapse = fits.lapse })) None)) (bytes_eq_self target) in
     sym (ap (λ o. (opened (hub_of p now (Some h) None) conn fresh o).1) found)
 
 if_ok_same : {E : Type 0} (r : Result (List HubOut) E) (a b : List HubOut) → a ≡ b → IfOk r (λ o. o ≡ a) → IfOk r (λ o. o ≡ b)

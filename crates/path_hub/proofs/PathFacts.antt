@@ -1,5 +1,5 @@
 -- What a hub of a schedule of one room and one client may rely on.
-use Rattle.std.proofs.Common.{leb-true, ◌≤◌, ◌≡◌, ℕ, suc, true, false, List, [], ◌∷◌, arith, length, map, refl, Option, Some, None, ap, sym, ◌∙◌, ◌++◌, append_assoc, ◌==◌, cond}
+use Rattle.std.proofs.Common.{leb-true, ◌≤◌, ◌≡◌, ℕ, suc, Bool, true, false, List, [], ◌∷◌, arith, length, map, refl, Option, Some, None, ap, sym, ◌∙◌, ◌++◌, append_assoc, ◌==◌, cond}
 use Rattle.std.specs.Prelude.{nat_le, is_some, ◌+◌, Result, Ok, Err}
 use Rattle.std.specs.Result.{MatchResult, IsOk}
 use Rattle.std.specs.List.{list_all}
@@ -10,14 +10,18 @@ use Rattle.lists.proofs.SameBytes.{bytes_eq_self}
 use Rattle.schema_model.specs.Classes.{Schema, Declared, is_kept, item_in_range, item_of}
 use Rattle.schema_model.specs.declared.class.FieldDecl.{FieldDecl}
 use Rattle.plain_rows.specs.Numbers.{is_number_schema}
-use Rattle.text_model.specs.Paths.{path_schema, number_field, event_of}
+use Rattle.text_model.specs.Paths.{path_schema, number_field, event_of, is_within}
 use Rattle.text_model.specs.declared.path.FirstPath.{FirstPath}
-use Rattle.path_hub.specs.PathHub.{is_playable, hub_of, Waits, Fits}
+use Rattle.path_hub.specs.PathHub.{is_playable, hub_of, Fits}
 use Rattle.hub_model.specs.Hub.{hub_step, asked, asked_def, with_rooms}
 use Rattle.hub_model.specs.Replies.{reply_text, join_or_create_target}
 use Rattle.hub_model.specs.declared.event.HubOut.TheVariants as out
 use Rattle.room_model.specs.declared.definition.RoomDef.{RoomDef}
+use Rattle.room_model.specs.declared.event.Stage.TheVariants.{Reserved}
+use Rattle.room_model.specs.Sessions.{Session, session_of}
 use Rattle.room_model.specs.Room.{RoomValue, after_reserve, new_room}
+use Rattle.state_model.specs.Members.{no_members}
+use Rattle.state_model.specs.Rows.{root_alone}
 use Rattle.room_core.specs.Values.{Held}
 use Rattle.text_model.specs.declared.path.Item.TheVariants.{Ask}
 use Rattle.text_model.specs.Marks.{is_id, is_id_byte}
@@ -75,6 +79,12 @@ empty_of_length (x ∷ xs) h = grind (arith, nat_tests, h)
 pub no_filter : (p : FirstPath) → is_playable p ≡ true → p.def.filter ≡ []
 no_filter p h = empty_of_length _ (and_parts _ _ (and_parts _ _ h).0).1
 
+-- its room has a place
+pub has_place : (p : FirstPath) → is_playable p ≡ true → 1 ≤ p.def.max
+has_place p h =
+    let within = (and_parts _ (is_within 1 64 p.def.max) (and_parts _ _ (and_parts _ _ h).0).0).1 in
+    leb-true 1 p.def.max (and_parts _ _ within).0
+
 -- its reservation lapses within an hour
 pub seat_within : (p : FirstPath) → is_playable p ≡ true → p.def.seat ≤ 3600000
 seat_within p h = leb-true p.def.seat 3600000 (and_parts _ _ (and_parts _ _ h).1).1
@@ -102,14 +112,21 @@ ask_after p schema now None from conn held none empty is_held =
 
 -- the room of a request fits
 pub ask_fits : (p : FirstPath) (schema : Schema) (now : ℕ) (room : Option Held) (from : Option ℕ) (held : Held)
-    → is_some room ≡ false → schema ≡ path_schema p → held.room ≡ after_reserve (new_room schema p.def []) p.session (now + p.def.seat)
+    → is_some room ≡ false → held.room ≡ after_reserve (new_room schema p.def []) p.session (now + p.def.seat)
     → Fits p room from → Fits p (Some held) from
-ask_fits p schema now (Some h) from held none same is_held fits = absurd (cc)
-ask_fits p schema now None (Some c) held none same is_held fits = absurd fits
-ask_fits p schema now None None held none same is_held fits =
-    let waits : Waits p.session held.room.seats = record {
+ask_fits p schema now (Some h) from held none is_held fits = absurd (cc)
+ask_fits p schema now None (Some c) held none is_held fits = absurd fits
+ask_fits p schema now None None held none is_held fits =
+    record {
       lapse = now + p.def.seat;
       reserved = ap (λ (r : RoomValue). r.seats.reserved) is_held;
       no_seats = ap (λ (r : RoomValue). r.seats.seats) is_held;
       none_kept = ap (λ (r : RoomValue). r.seats.kept) is_held;
-    } in (ap (λ (r : RoomValue). r.schema) is_held ∙ same, waits)
+      there = ap (λ (r : RoomValue). is_some (session_of r.sessions p.session)) is_held ∙ ap is_there (bytes_eq_self p.session);
+    }
+  where
+    mine : Session
+    mine = record { id = p.session; stage = Reserved; members = no_members; permitted = root_alone schema; queue = []; keep = p.def.keep }
+
+    is_there : Bool → Bool
+    is_there b = is_some (cond b (Some mine) None)

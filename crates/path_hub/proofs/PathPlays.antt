@@ -38,7 +38,7 @@ path_plays p h =
     let seat = and_parts _ (is_within 1 3600000 p.def.seat) patch.0 in
     let max = and_parts (is_room_name p.def.name) (is_within 1 64 p.def.max) seat.0 in
     let ids = and_from _ _ (and_from _ _ (and_from _ _ (schema_plays p f) f.process_id) f.room_id) f.session_id in
-    and_from _ _ (and_from _ _ (and_from _ _ ids max.0) filter.1) seat.1
+    and_from _ _ (and_from _ _ (and_from _ _ (and_from _ _ ids max.0) max.1) filter.1) seat.1
 
 -- ---- the events
 

@@ -1,5 +1,5 @@
 -- The hub of a schedule of one room and one client: what it keeps, and which events it takes.
-use Rattle.std.specs.Prelude.{◌≡◌, ℕ, ◌^◌, Bool, true, not, ◌&&◌, List, [], ◌∷◌, length, Option, Some, None, ⊤, nat_lt, ◌==◌}
+use Rattle.std.specs.Prelude.{◌≡◌, ℕ, ◌^◌, Bool, true, not, ◌&&◌, List, [], ◌∷◌, length, Option, Some, None, is_some, ⊤, nat_lt, ◌==◌}
 use Rattle.schema_model.specs.Fits.{in_signed}
 use Rattle.hub_model.specs.Hub.{HubValue, HubRoom, HubConn}
 use Rattle.room_core.specs.Values.{Held}
@@ -7,9 +7,10 @@ use Rattle.plain_rows.specs.Numbers.{is_number_schema}
 use Rattle.std.specs.Option.{option_map}
 use Rattle.std.specs.Prelude.{IsTrue}
 use Rattle.room_model.specs.declared.event.RoomEvent.{RoomEvent}
-use Rattle.room_model.specs.Seats.{Seats}
+use Rattle.room_model.specs.Sessions.{session_of}
 use Rattle.room_model.specs.Room.{RoomValue, room_step}
-use Rattle.room_core.specs.Takes.{takes}
+use Rattle.room_laws.specs.Places.{may_happen, is_connected_in}
+use Rattle.room_like.specs.Taken.{is_taken}
 use Rattle.text_model.specs.Marks.{is_id, is_room_name}
 use Rattle.text_model.specs.Paths.{path_schema, is_within}
 use Rattle.text_model.specs.declared.path.Item.{Item}
@@ -36,25 +37,32 @@ hub_of p now room conn = record {
   conns = conns_of p.room p.session conn;
 }
 
--- the session's reservation is the only entry of the places
-pub record Waits (session : List ℕ) (seats : Seats) : Type 0 where
+-- the session is in the room, and its reservation is the only entry of the places
+pub record Waits (session : List ℕ) (r : RoomValue) : Type 0 where
   pub lapse : ℕ
-  pub reserved : seats.reserved ≡ record { session = session; lapse = lapse } ∷ []
-  pub no_seats : seats.seats ≡ []
-  pub none_kept : seats.kept ≡ []
+  pub reserved : r.seats.reserved ≡ record { session = session; lapse = lapse } ∷ []
+  pub no_seats : r.seats.seats ≡ []
+  pub none_kept : r.seats.kept ≡ []
+  pub there : is_some (session_of r.sessions session) ≡ true
 
--- the room has the schedule's schema; the session's reservation is its only place in use, until it was opened
+-- the session is connected, and nothing is reserved
+pub record HasCome (session : List ℕ) (r : RoomValue) : Type 0 where
+  pub none_reserved : r.seats.reserved ≡ []
+  pub is_connected : is_connected_in r session ≡ true
+
+-- the session's reservation is the room's only place in use, until it was opened; then it is connected
 abbrev pub Fits : FirstPath → Option Held → Option ℕ → Type 0
 Fits p None None = ⊤
 Fits p None (Some conn) = ⊥
-Fits p (Some h) None = (h.room.schema ≡ path_schema p) × Waits p.session h.room.seats
-Fits p (Some h) (Some conn) = (h.room.schema ≡ path_schema p) × (h.room.seats.reserved ≡ [])
+Fits p (Some h) None = Waits p.session h.room
+Fits p (Some h) (Some conn) = HasCome p.session h.room
 
--- the schema is of numbers, the ids and the room's name are ASCII, nothing is filtered by, and a reservation lapses within an hour
+-- the schema is of numbers, the ids and the room's name are ASCII, the room has a place, nothing is filtered by, and a
+-- reservation lapses within an hour
 abbrev pub is_playable : FirstPath → Bool
 is_playable p =
     is_number_schema (path_schema p) && is_id p.process && is_id p.room && is_id p.session && is_room_name p.def.name
-    && (length p.def.filter == 0) && is_within 1 3600000 p.def.seat
+    && is_within 1 64 p.def.max && (length p.def.filter == 0) && is_within 1 3600000 p.def.seat
 
 -- whether an event may come: a request only once, and a put only to a field of the class
 abbrev pub may_come : ℕ → Bool → Item → Bool
@@ -75,7 +83,7 @@ may_follow fields asked (i ∷ is) = may_come fields asked i && may_follow field
 -- the room, where there is one, takes an event
 abbrev pub CanTake : Option Held → RoomEvent → Type 0
 CanTake None e = ⊤
-CanTake (Some h) e = IsTrue (takes h.room e)
+CanTake (Some h) e = IsTrue (may_happen h.room e) × IsTrue (is_taken e)
 
 -- the room, where there is one, after an event
 abbrev pub after_event : Option Held → RoomEvent → Option RoomValue

@@ -11,7 +11,7 @@ use crate::reply::seat_reply;
 use crate::tell::tell_all;
 use hub_model::{HubOut, HubOuts};
 use lists::Seq;
-use room_core::Room;
+use room_core::{Room, RoomLike};
 use room_model::{Act, RoomEvent, Texts};
 use schema_model::{Bytes, ConnNum, Id, Memory, RefNum, Schema, Value};
 use state_model::Command;
@@ -24,7 +24,7 @@ use text_model::{FirstPath, Item};
 const LAST_MOMENT: u64 = (1 << 53) - 1;
 
 /// The hub of a schedule of one room and one client: the moment, the room and the session's connection.
-#[derive(Debug, Drop)]
+#[derive(Drop)]
 pub struct PathHub {
     pub now: u64,
     pub room: Option<Room>,

@@ -1,2 +1,11 @@
-pub mod RoomSteps
-pub mod SharedPatch
+mod Mixed
+mod Fronts
+mod ClientLists
+mod StandsLaws
+mod Edited
+mod Commanded
+mod Entered
+mod Ticked
+mod TickedAll
+mod TickedRoom
+mod Ordered

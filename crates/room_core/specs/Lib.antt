@@ -1,4 +1,7 @@
+pub mod Entries
 pub mod Values
-pub mod Takes
-pub mod Numbered
+pub mod Stands
 pub mod Steps
+pub mod Ticks
+pub mod Order
+pub mod Costs

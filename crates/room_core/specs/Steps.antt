@@ -1,46 +1,73 @@
--- What the step makes of the parts of a room.
-use Rattle.std.specs.Prelude.{ℕ, ℤ, List, [], ◌∷◌, Option, Some, None}
-use Rattle.lists.specs.Rising as rising
-use Rattle.schema_model.specs.Classes.{Schema}
-use Rattle.schema_model.specs.declared.value.Value.TheVariants as value
-use Rattle.state_model.specs.declared.row.RowEntry.{RowEntry}
-use Rattle.state_model.specs.declared.row.FieldValue.{FieldValue}
-use Rattle.wire_model.specs.Frame.{full_state}
-use Rattle.frame_model.specs.Frames.{server_bytes}
-use Rattle.frame_model.specs.declared.frame.ServerFrame.TheVariants as server
+-- What events make of the parts of a room.
+use Rattle.std.specs.Prelude.{◌≡◌, ℕ, List, [], ◌∷◌, map, Option, Some, None, Result, Ok, Err, IfOk, IsErr, if◌then◌else◌}
+use Rattle.std.specs.Str.{bytes_eq}
 use Rattle.room_model.specs.declared.event.RoomOut.{RoomOut}
 use Rattle.room_model.specs.declared.event.RoomOut.TheVariants as out
-use Rattle.room_model.specs.Room.{join_frame}
-use Rattle.plain_rows.specs.Numbers.{field_index}
-use Rattle.room_core.specs.declared.place.Phase.{Phase}
-use Rattle.room_core.specs.declared.place.Phase.TheVariants.{Joining, Due, Live}
-use Rattle.room_core.specs.Values.{patch_of}
+use Rattle.room_model.specs.declared.event.Stage.{Stage}
+use Rattle.room_model.specs.declared.event.Stage.TheVariants.{Reserved, Joining, Due, Live, Kept}
+use Rattle.room_model.specs.declared.refusal.Refusal.{Refusal}
+use Rattle.room_model.specs.declared.refusal.Refusal.TheVariants as refusal
+use Rattle.room_model.specs.Sessions.{Acted, acted}
+use Rattle.room_model.specs.Room.{made_outs}
+use Rattle.lists.specs.declared.memory.Memory.{Memory}
+use Rattle.state_model.specs.declared.command.TableFault.{TableFault}
+use Rattle.state_model.specs.declared.command.TableFault.TheVariants as table
+use Rattle.view_edits.specs.declared.fault.EditFault.{EditFault}
+use Rattle.view_edits.specs.declared.fault.EditFault.TheVariants as fault
+use Rattle.room_core.specs.declared.client.Client.{Client}
+use Rattle.room_core.specs.declared.parts.Parts.{Parts}
+use Rattle.room_core.specs.Values.{session_of_client}
 
--- the fields with a number in one of them
-abbrev pub put_number : ℕ → ℤ → List FieldValue → List FieldValue
-put_number i z fields = rising.put field_index (record { field = i; value = value.Whole z }) fields
+-- the clients, each changed where it is this one
+abbrev pub change_client : List ℕ → (Client → Client) → List Client → List Client
+change_client id change cs = map (λ (c : Client). if bytes_eq c.id id then change c else c) cs
 
--- what the opening of a reservation gives
-abbrev pub enter_outs : List ℕ → List ℕ → List RoomOut
-enter_outs session fresh = out.Entered session ∷ out.Send session (join_frame fresh) ∷ []
+-- a client at another stage
+abbrev pub client_at : Stage → Client → Client
+client_at stage c = record { id = c.id; stage = stage; members = c.members; view = c.view; keep = c.keep }
 
--- the phase after an acknowledgement of the session
-abbrev pub acknowledged_phase : Phase → Phase
-acknowledged_phase Joining = Due
-acknowledged_phase p = p
+-- an acknowledged stage
+abbrev pub acknowledged_stage : Stage → Stage
+acknowledged_stage Joining = Due
+acknowledged_stage Reserved = Reserved
+acknowledged_stage Due = Due
+acknowledged_stage Live = Live
+acknowledged_stage Kept = Kept
 
--- the phase after a tick
-abbrev pub ticked_phase : Phase → Phase
-ticked_phase Due = Live
-ticked_phase p = p
+-- the places are as they were
+abbrev pub SamePlaces : Parts → Parts → Type 0
+SamePlaces old new = (new.places ≡ old.places) × (new.def ≡ old.def)
 
--- an output, where there are bytes
-abbrev pub sent_to : List ℕ → Option (List ℕ) → List RoomOut
-sent_to id None = []
-sent_to id (Some bytes) = out.Send id bytes ∷ []
+-- what a fault of a command gives: want of memory nothing, any other its refusal
+pub record FaultTells (f : TableFault) (r : Result (List RoomOut) Memory) : Type 0 where
+  pub memory : f ≡ table.Memory → IsErr r
+  pub refusal : (f ≡ table.Memory → ⊥) → IfOk r (λ outs. outs ≡ out.Refused (refusal.Table f) ∷ [])
 
--- what a session is sent at a tick
-abbrev pub phase_outs : Phase → Schema → List RowEntry → List RowEntry → List ℕ → List RoomOut
-phase_outs Due s sh rows id = out.Send id (server_bytes (server.State (full_state s rows rows))) ∷ []
-phase_outs Live s sh rows id = sent_to id (patch_of s sh rows)
-phase_outs p s sh rows id = []
+-- what the answer to a command gives
+abbrev pub AnswerTells : Result (Option ℕ) TableFault → Result (List RoomOut) Memory → Type 0
+AnswerTells (Ok made) r = IfOk r (λ outs. outs ≡ made_outs made)
+AnswerTells (Err f) r = FaultTells f r
+
+-- what the answer to an edit of a client's view tells: it was done, or why it was refused and changed nothing
+abbrev pub EditTells : Result Acted Refusal → Client → Client → Option Refusal → Type 0
+EditTells does old new None = does ≡ acted (session_of_client new) []
+EditTells does old new (Some f) = (does ≡ Err f) × (new ≡ old)
+
+-- an edit changes the members alone, and not those of the last tick
+pub record Edited (old new : Client) : Type 0 where
+  pub id : new.id ≡ old.id
+  pub stage : new.stage ≡ old.stage
+  pub last : new.members.last ≡ old.members.last
+  pub view : new.view ≡ old.view
+
+-- the refusal of an act
+abbrev pub refused_outs : Option Refusal → List RoomOut
+refused_outs None = []
+refused_outs (Some f) = out.Refused f ∷ []
+
+-- what the answer to an edit refuses; want of memory refuses nothing
+abbrev pub Refuses : Result (Unit {0}) EditFault → Result (Option Refusal) Memory → Type 0
+Refuses (Ok done) r = r ≡ Ok None
+Refuses (Err fault.NoRef) r = r ≡ Ok (Some (refusal.Table table.NoRef))
+Refuses (Err fault.ViewFull) r = r ≡ Ok (Some refusal.ViewFull)
+Refuses (Err fault.Memory) r = IsErr r

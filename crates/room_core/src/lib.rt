@@ -1,10 +1,18 @@
-//! A room: one session over a row of numbers, with its full state and its patches.
+//! A room: any number of clients that join, are acknowledged, and see its state from tick to tick.
 #![tactic(auto)]
 
-pub mod frames;
-pub mod place;
-pub mod room;
+mod client;
+mod clients;
+mod edits;
+mod entering;
+mod frames;
+mod parts;
+mod places;
+mod room;
+#[cfg(test)]
+mod tests;
+mod ticks;
 
-pub use place::{Phase, Place};
 pub use room::Room;
+pub use room_like::RoomLike;
 pub use room_model::{Act, Refusal, RoomDef, RoomEvent, RoomOut, RoomOuts, Stage};

@@ -1,6 +1,8 @@
--- The events that rooms take so far: reservations, openings, acknowledgements, commands, view edits and ticks. Ours.
+-- The events that rooms take so far: reservations, openings, acknowledgements, commands, view edits and ticks; and that
+-- what they put is UTF-8 where it is text. Ours.
 use Rattle.std.specs.Prelude.{ℕ, Bool, true, false, List}
 use Rattle.std.specs.Str.{bytes_eq}
+use Rattle.command_laws.specs.Worded.{is_worded_command}
 use Rattle.frame_model.specs.Frames.{client_bytes}
 use Rattle.frame_model.specs.declared.frame.ClientFrame.TheVariants as client
 use Rattle.room_model.specs.declared.event.Act.{Act}
@@ -26,3 +28,8 @@ is_taken (event.Frame session bytes) = is_acknowledgement bytes
 is_taken (event.Act a) = is_taken_act a
 is_taken event.Tick = true
 is_taken e = false
+
+-- the texts that an event's command puts are UTF-8, as those of every command are that a program has
+abbrev pub is_worded_event : RoomEvent → Bool
+is_worded_event (event.Act (act.State command)) = is_worded_command command
+is_worded_event e = true

@@ -3,6 +3,8 @@
 
 pub mod reserving;
 pub mod room;
+pub mod worded;
 
 pub use reserving::may_reserve;
 pub use room::RoomLike;
+pub use worded::know_event;

@@ -1,10 +1,11 @@
 //! A room, for whoever runs it.
-ghost use Rattle.std.specs.Prelude.{◌≡◌, false, is_some, IfOk, IsErr, IsTrue, OnErr, OnOk};
+ghost use Rattle.std.specs.Prelude.{◌≡◌, ◌+◌, ◌≤◌, false, is_some, IfOk, IsErr, IsTrue, OnErr, OnOk};
 ghost use Rattle.room_model.specs.Ledger.{kept_by as keeper_of};
 ghost use Rattle.room_model.specs.Room.{new_room};
 ghost use Rattle.room_model.specs.Seats.{in_use as places_in_use};
 ghost use Rattle.room_model.specs.Sessions.{session_of};
 ghost use Rattle.room_laws.specs.Places.{may_happen};
+ghost use Rattle.room_like.specs.Taken.{is_worded_event};
 
 use room_model::{RoomDef, RoomEvent, RoomOuts, Texts};
 use schema_model::{Id, Memory, Schema};
@@ -36,6 +37,9 @@ pub trait RoomLike: Sized + Drop {
     /// The events that it takes.
     ghost takes: { RoomEvent → Bool };
 
+    /// How many steps its step takes at most.
+    ghost costs: { RoomValue → RoomEvent → ℕ };
+
     /// What holds of a new room, and after each step.
     ghost Holds: { RoomValue → Type 0 };
 
@@ -45,7 +49,8 @@ pub trait RoomLike: Sized + Drop {
         ensures fresh { IfOk result (λ r. is_spent r ≡ false) };
 
     /// The room's step. A reservation is of a session that the room doesn't have, and the room is neither locked nor
-    /// full; a frame and a loss are of a session that has a connection. Where it answers `Memory` the room is spent.
+    /// full; a frame and a loss are of a session that has a connection. Where it answers `Memory` the room is spent. The
+    /// texts that an event's command puts are UTF-8, as those of every command are.
     fn step<L: Ledger>(
         &mut self,
         event: &RoomEvent,
@@ -57,15 +62,18 @@ pub trait RoomLike: Sized + Drop {
         ensures after { OnOk result (room self.new ≡ (happens (room self.old) event.now).0) }
         ensures fresh { OnOk result (is_spent self.new ≡ false) }
         ensures spent { OnErr result (IsTrue (is_spent self.new)) }
-        ensures for_good { IsTrue (is_spent self.old) → IsErr result };
+        ensures for_good { IsTrue (is_spent self.old) → IsErr result }
+        ensures cost { OnOk result (steps.new ≤ steps.old + costs (room self.old) event.now) }
+        ensures worded { IsTrue (is_worded_event event.now) };
 
     /// Whether an act locked it.
     fn locked(&self) -> bool
         ensures { result ≡ (room self.now).seats.locked };
 
-    /// How many places are in use: by seats, reservations and kept seats.
+    /// How many places are in use: by seats, reservations and kept seats. No more than there are, also of a spent room.
     fn in_use(&self) -> u32
-        ensures { result ≡ places_in_use (room self.now).seats };
+        ensures value { result ≡ places_in_use (room self.now).seats }
+        ensures within { result ≤ (room self.now).seats.max };
 
     /// How many places there are.
     fn max(&self) -> u32

@@ -23,8 +23,7 @@ use Rattle.room_laws.specs.Placed.{Placed}
 use Rattle.room_laws.specs.Places.{may_happen}
 use Rattle.room_laws.proofs.RoomPlaces.{step_keeps}
 use Rattle.room_laws.proofs.RoomPlaced.{step_placed, new_placed}
-use Rattle.room_like.specs.Taken.{is_taken, is_acknowledgement}
-use Rattle.room_promises.specs.RoomPromises.{is_worded_event}
+use Rattle.room_like.specs.Taken.{is_taken, is_acknowledgement, is_worded_event}
 use Rattle.room_promises.proofs.Openings.{enter_cases}
 use Rattle.room_promises.proofs.StateFacts.{GoodStates, new_states, command_states, swept_states}
 

@@ -1,20 +1,26 @@
 -- Rooms keep their promises, over every list of events that they take.
-use Rattle.std.proofs.Common.{◌≡◌, true, List, [], Ok, sym, ap, ◌∙◌}
+use Rattle.std.proofs.Common.{◌≡◌, ◌≤◌, true, List, [], ◌∷◌, Ok, refl, sym, ap, subst, ◌∙◌}
+use Rattle.std.specs.List.{fold}
 use Rattle.std.proofs.lemmas.Bool.{and_parts}
 use Rattle.std.proofs.lemmas.List.Elements.{All-nil, All-contains}
 use Rattle.schema_model.specs.Classes.{Schema}
 use Rattle.state_model.specs.declared.row.RowEntry.{RowEntry}
 use Rattle.state_model.specs.State.{new_state}
 use Rattle.wire_model.specs.Decoded.{seen}
+use Rattle.room_model.specs.declared.definition.RoomDef.{RoomDef}
+use Rattle.room_model.specs.declared.event.RoomEvent.{RoomEvent}
 use Rattle.room_model.specs.declared.event.Stage.{Stage}
 use Rattle.room_model.specs.declared.event.Stage.TheVariants.{Reserved, Joining, Due, Live, Kept}
+use Rattle.room_model.specs.Seats.{in_use}
 use Rattle.room_model.specs.Sessions.{session_of}
-use Rattle.room_model.specs.Room.{new_room}
+use Rattle.room_model.specs.Room.{RoomValue, new_room}
+use Rattle.room_laws.specs.Places.{room_after}
+use Rattle.room_laws.proofs.RoomPlaces.{rooms_keep_places}
 use Rattle.life_model.specs.Entries.{Sending}
 use Rattle.life_model.specs.Lives.{is_at, is_live_stage}
 use Rattle.life_model.specs.Promises.{latest_frames}
 use Rattle.life_model.specs.Sent.{sent}
-use Rattle.room_promises.specs.RoomLives.{RoomLife, RoomRun, room_run, is_live}
+use Rattle.room_promises.specs.RoomLives.{RoomLife, RoomRun, run_step, room_run, is_live}
 use Rattle.room_promises.specs.RoomPromises.{Keeps, RoomsKeep, EqualRecordsEqualBytes}
 use Rattle.room_promises.proofs.GoodLives.{Held, held, SeesAt, GoesOn, GoodLife}
 use Rattle.room_promises.proofs.RoomSteps.{new_good}
@@ -35,19 +41,25 @@ life_sees schema rows x l g live =
     let on : GoesOn schema rows x.room.sessions l = g.goes_on both.0 in
     live_sees on.session.stage schema rows (held on.session) l.outputs l.view (sym (ap (is_at is_live_stage) on.there) ∙ both.1) on.fits.sees
 
-good_keeps : (schema : Schema) (x : RoomRun) → GoodRun schema x → Keeps schema x
-good_keeps schema x g = record {
+good_keeps : (schema : Schema) (def : RoomDef) (x : RoomRun) → GoodRun schema x → in_use x.room.seats ≤ def.max → Keeps schema def x
+good_keeps schema def x g within = record {
   sees = λ l there live. life_sees schema g.last.rows x l (All-contains (GoodLife schema g.last.rows x.room.sessions) x.lives l g.lives there) live;
   equal = λ l there. (All-contains (GoodLife schema g.last.rows x.room.sessions) x.lives l g.lives there).equal;
-  places = g.room.within;
+  places = within;
 }
+
+-- its room is the one after the events
+run_room : (x : RoomRun) (events : List RoomEvent) → (fold run_step x events).room ≡ room_after x.room events
+run_room x [] = refl
+run_room x (e ∷ es) = run_room (run_step x e) es
 
 -- so does every run from a new room
 pub rooms_keep : RoomsKeep
 rooms_keep schema def criteria events can =
-    good_keeps schema (room_run schema def criteria events)
+    good_keeps schema def (room_run schema def criteria events)
     (runs_good schema (record { room = new_room schema def criteria; lives = [] }) events can.schema_kept can.taken can.worded can.follow
     (record { last = new_state schema; room = new_good schema def criteria can.schema_kept; lives = All-nil _ }))
+    (subst (λ (r : RoomValue). in_use r.seats ≤ def.max) (sym (run_room (record { room = new_room schema def criteria; lives = [] }) events)) (rooms_keep_places schema def criteria events can.follow))
 
 pub equal_records_equal_bytes : EqualRecordsEqualBytes
 equal_records_equal_bytes schema def other criteria others events happened can may k l there here same =

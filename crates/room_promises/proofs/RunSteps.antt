@@ -21,9 +21,8 @@ use Rattle.room_model.specs.Sessions.{Session, session_of, view_added_to, view_r
 use Rattle.room_model.specs.Room.{RoomValue, room_step}
 use Rattle.room_laws.specs.Places.{may_happen, may_follow}
 use Rattle.room_laws.proofs.SessionLists.{named_more}
-use Rattle.room_like.specs.Taken.{is_taken}
+use Rattle.room_like.specs.Taken.{is_taken, is_worded_event}
 use Rattle.room_promises.specs.RoomLives.{RoomLife, RoomRun, is_in, room_entries, given_by, view_after, lived, new_life, begun, run_step}
-use Rattle.room_promises.specs.RoomPromises.{is_worded_event}
 use Rattle.room_promises.proofs.GoodLives.{GoesOn, GoodLife, good_life, with_more}
 use Rattle.room_promises.proofs.Openings.{enter_on}
 use Rattle.room_promises.proofs.Frames.{frame_on}

@@ -1,6 +1,5 @@
 -- The state of a room at the last tick and now: what commands and sweeps keep of them.
-use Rattle.std.proofs.Common.{◌≡◌, inl, inr, ℕ, zero, suc, ◌+◌, ◌-◌, ◌≤◌, ◌<◌, Bool, true, false, cond, not, ◌&&◌, ◌||◌, ◌==◌, List, [], length, filter, Option, Some, None, Ok, nat_le, refl, sym, ap, subst, ◌∙◌, zero-le, arith}
-use Rattle.std.specs.Option.{is_some}
+use Rattle.std.proofs.Common.{◌≡◌, inl, inr, ℕ, zero, suc, ◌≤◌, ◌<◌, Bool, true, false, cond, not, ◌&&◌, ◌||◌, ◌==◌, List, [], length, filter, Option, Some, None, Ok, nat_le, refl, sym, ap, subst, ◌∙◌, zero-le, arith}
 use Rattle.std.proofs.lemmas.Bool.Decides.{nat_tests}
 use Rattle.std.proofs.lemmas.List.Filters.{sum_by-filter_both}
 use Rattle.schema_model.specs.Classes.{Schema, is_kept}
@@ -13,20 +12,18 @@ use Rattle.state_model.specs.Rows.{values_in, emptied, place_count, put_row}
 use Rattle.state_model.specs.Reached.{times, swept_once, is_among, all_held}
 use Rattle.state_model.specs.Spelled.{are_spelled}
 use Rattle.state_model.specs.State.{State, new_state, next_item, swept, places_limit, last_number}
-use Rattle.state_model.specs.Commands.{adds_place, answer_of, do_command, edited, makes_row, number_made, refusal_of, state_after, value_put}
-use Rattle.command_laws.specs.Accounts.{IsFit, is_clear, one_if, replaced}
+use Rattle.state_model.specs.Commands.{answer_of, do_command, edited, makes_row, number_made, refusal_of, state_after}
 use Rattle.command_laws.specs.Kept.{IsKept}
 use Rattle.command_laws.specs.Worded.{is_worded_command}
 use Rattle.command_laws.proofs.Accepted.{command_accepted, outcome}
-use Rattle.command_laws.proofs.Accounts.{accepted_fits, adds_place_is}
+use Rattle.command_laws.proofs.Accounts.{accepted_fits}
 use Rattle.command_laws.proofs.KeptStates.{command_keeps, new_state_kept}
 use Rattle.command_laws.proofs.RowSums.{put_row_sum}
 use Rattle.command_laws.proofs.SoundRows.{sound_rises}
 use Rattle.command_laws.proofs.SpelledStates.{command_spells, sweep_spells}
 use Rattle.command_laws.proofs.SweptStates.{sweep_keeps}
-use Rattle.instance_table.specs.Amounts.{places_after}
 use Rattle.instance_table.specs.Later.{IsLater}
-use Rattle.instance_table.proofs.ChangedTables.{places_changed}
+use Rattle.instance_table.proofs.ChangedTables.{places_changed, places_within}
 use Rattle.instance_table.proofs.LaterLaws.{later_same, later_swept, later_command}
 use Rattle.instance_table.proofs.LaterAgain.{later_again}
 
@@ -60,24 +57,6 @@ made_places (Struct class fields) = refl
 made_places (Map home items) = refl
 made_places (Array home values) = refl
 made_places (Set home items) = refl
-
--- a change of a row stays within the limit
-places_within : (schema : Schema) (rows : List RowEntry) (c : Command) (row : Row) → IsFit schema rows c row → (adds_place c (Some row) && nat_le places_limit (place_count rows)) ≡ false → place_count rows ≤ places_limit
-    → places_after c row (place_count rows) ≤ places_limit
-places_within schema rows c row fit left few = by_test (is_clear c) (is_some (value_put c)) refl (is_some (replaced c row)) refl
-  where
-    adds : adds_place c (Some row) ≡ (is_some (value_put c) && not (is_some (replaced c row)))
-    adds = adds_place_is schema rows c row fit
-
-    by_test : (t p : Bool) → is_some (value_put c) ≡ p → (r : Bool) → is_some (replaced c row) ≡ r → cond t (place_count rows - length (values_in row)) (place_count rows + one_if (is_some (value_put c)) - one_if (is_some (replaced c row))) ≤ places_limit
-    by_test true p e r f = omega arith
-    by_test false true e true f = omega (arith, ap one_if e, ap one_if f)
-    by_test false true e false f =
-        let adds : adds_place c (Some row) ≡ true = adds ∙ (ap (λ b. b && not (is_some (replaced c row))) e ∙ ap (λ b. true && not b) f) in
-        let full : nat_le places_limit (place_count rows) ≡ false = sym (ap (λ b. b && nat_le places_limit (place_count rows)) adds) ∙ left in
-        let less : place_count rows < places_limit = grind (arith, nat_tests, full) in
-        omega (arith, ap one_if e, ap one_if f, less)
-    by_test false false e r f = omega (arith, ap one_if e)
 
 -- the places after a command
 command_places : (schema : Schema) (s : State) (c : Command) (t : State) (made : Option ℕ) → IsKept schema s → place_count s.rows ≤ places_limit → do_command schema s c ≡ Ok (t, made) → place_count t.rows ≤ places_limit

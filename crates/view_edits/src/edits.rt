@@ -1,9 +1,10 @@
 //! The edits of a view, over a live state.
-ghost use Rattle.std.specs.Prelude.{◌≡◌, true};
+ghost use Rattle.std.specs.Prelude.{◌≡◌, ◌+◌, true};
 ghost use Rattle.live_state.specs.Live.{rows_of, schema_of, swept_table};
+ghost use Rattle.instance_table.specs.Behind.{places_behind};
 ghost use Rattle.instance_table.specs.Table.{TableState};
 ghost use Rattle.state_model.specs.Members.{live_members};
-ghost use Rattle.view_edits.specs.Edited.{Hides, Shows};
+ghost use Rattle.view_edits.specs.Edited.{Costs, Hides, Shows};
 ghost use Rattle.view_edits.specs.There.{are_there};
 
 use crate::fault::EditFault;
@@ -14,7 +15,8 @@ use steps::Steps;
 use view_members::Members;
 
 /// Adds a row under a tag, and every row that is reached from it through places that are untagged or have the tag, to a
-/// view. A refused edit changes nothing. The pairs of a view are of rows that are there, and stay so.
+/// view. A refused edit changes nothing. The pairs of a view are of rows that are there, and stay so. It takes a step for
+/// each place of these rows.
 pub fn show<L: Ledger>(
     live: &LiveState,
     members: &mut Members,
@@ -22,6 +24,7 @@ pub fn show<L: Ledger>(
     steps: &mut Steps<L>,
 ) -> Result<(), EditFault>
     ensures shows { Shows (schema_of live.now) (rows_of live.now) pair members.old members.new result }
+    ensures cost { Costs (steps.old + places_behind (schema_of live.now) (rows_of live.now) pair.who pair.tag) steps.new result }
     ensures there { are_there (rows_of live.now) members.old.now ≡ true → are_there (rows_of live.now) members.new.now ≡ true }
 {
     // The rows of a live state are sound: what is behind a row that is there is there too.
@@ -31,7 +34,8 @@ pub fn show<L: Ledger>(
     Ok(())
 }
 
-/// Takes a row under a tag, and what `show` would add with it, out of a view. A refused edit changes nothing.
+/// Takes a row under a tag, and what `show` would add with it, out of a view. A refused edit changes nothing. It takes a
+/// step for each place of these rows.
 pub fn hide<L: Ledger>(
     live: &LiveState,
     members: &mut Members,
@@ -39,6 +43,7 @@ pub fn hide<L: Ledger>(
     steps: &mut Steps<L>,
 ) -> Result<(), EditFault>
     ensures hides { Hides (schema_of live.now) (rows_of live.now) pair members.old members.new result }
+    ensures cost { Costs (steps.old + places_behind (schema_of live.now) (rows_of live.now) pair.who pair.tag) steps.new result }
     ensures there { are_there (rows_of live.now) members.old.now ≡ true → are_there (rows_of live.now) members.new.now ≡ true }
 {
     let pairs = live.expand(pair.who, pair.tag, steps)?;

@@ -21,4 +21,4 @@ returns-clause-after g c =
 pub returns-clause-fits : goal.returns-clause-fits
 returns-clause-fits g c =
     ask_fits c.args.path.now c.args.schema.now c.args.self.now.now c.args.self.now.room c.args.self.now.conn c.in_ok-room.room
-    c.requires.none c.requires.schema c.in_ok-room.ensures c.requires.fits
+    c.requires.none c.in_ok-room.ensures c.requires.fits

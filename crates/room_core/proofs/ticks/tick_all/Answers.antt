@@ -1,0 +1,34 @@
+use Rattle.std.proofs.Common.{◌≡◌, ◌<◌, All, length, sym, subst, arith}
+use Rattle.room_core.specs.Stands.{ClientStands}
+use Rattle.live_state.specs.Live.{rows_of, schema_of}
+use Rattle.room_core.proofs.TickedAll.{Done, done_more, next_same, cost_more}
+use Rattle.room_core.proofs.ticks.tick_all.Goals as goal
+
+pub tick_one-requires : goal.tick_one-requires
+tick_one-requires g c =
+    let live = c.args.live.now in
+    let client = c.client-item.result in
+    let first = c.deref_mut-client-items.result.now in
+    let items = c.loop-client.client-items in
+    let at = c.loop-client.client-index in
+    let within : at < length first = omega arith in
+    let long : length items ≡ length first = omega arith in
+    let stands = ClientStands (schema_of live) c.requires.begun.tick.rows (rows_of live) in
+    let all : All stands first = subst (All stands) (sym c.deref_mut-client-items.ensures.value) c.requires.each in
+    record { begun = c.requires.begun; stands = subst stands (sym (next_same items first at client long within c.loop-client.invariant.rest)) (all at client within) }
+
+pub loop-client-preserved : goal.loop-client-preserved
+loop-client-preserved g c =
+    let live = c.args.live.now in
+    let shared = c.args.shared.now in
+    let client = c.client-item.result in
+    let first = c.deref_mut-client-items.result.now in
+    let items = c.loop-client.client-items in
+    let at = c.loop-client.client-index in
+    let was = c.loop-client.invariant in
+    let within : at < length first = omega arith in
+    let long : length items ≡ length first = omega arith in
+    let done : Done live shared first at items c.loop-client.outs = record { rest = was.rest; ticked = was.ticked; stand = was.stand; outs = was.outs } in
+    let more = done_more live shared first items at client c.tick_one.new.client c.in_ok-frame.frame c.loop-client.outs c.send_where.new.outs long within done c.in_ok-frame.ensures.ticks c.in_ok-send_where.ensures in
+    let cost = cost_more live first items at client c.args.steps.now c.loop-client.steps c.tick_one.new.steps long within was.rest was.cost c.in_ok-frame.ensures.cost in
+    record { rest = more.rest; ticked = more.ticked; stand = more.stand; outs = more.outs; cost = cost }

@@ -1,0 +1,180 @@
+//! What a room's owner does: commands and view edits.
+ghost use Rattle.std.specs.Prelude.{◌≡◌, ◌+◌, ◌≤◌, true, IfOk, OnErr, OnOk};
+ghost use Rattle.state_model.specs.Commands.{do_command};
+ghost use Rattle.instance_table.specs.Behind.{places_behind};
+ghost use Rattle.room_model.specs.Room.{after_answer, made_outs, on_session};
+ghost use Rattle.room_model.specs.Sessions.{view_added_to, view_removed_from};
+ghost use Rattle.room_laws.specs.Placed.{Placed};
+ghost use Rattle.live_state.specs.Live.{rows_of, schema_of};
+ghost use Rattle.view_edits.specs.There.{are_there};
+ghost use Rattle.room_core.specs.Costs.{edit_cost};
+ghost use Rattle.room_core.specs.Stands.{RoomStands};
+ghost use Rattle.room_core.specs.Steps.{AnswerTells, Edited, EditTells, FaultTells, refused_outs, Refuses, SamePlaces};
+ghost use Rattle.room_core.specs.Values.{room_of, session_of_client};
+
+use crate::client::Client;
+use crate::clients::place_of;
+use crate::entering::one_out;
+use crate::parts::Parts;
+use lists::Seq;
+use live_state::LiveState;
+use room_model::{Refusal, RoomOut, RoomOuts, Stage};
+use schema_model::{Id, Memory, Pair, RefNum};
+use state_model::{Command, TableFault};
+use std::alloc::Global;
+use std::sync::ledger::Ledger;
+use steps::Steps;
+use view_edits::{EditFault, hide, show};
+
+impl Parts {
+    /// A command.
+    pub fn command(&mut self, command: &Command) -> Result<RoomOuts, Memory>
+        requires stands { RoomStands self.old }
+        ensures outs { IfOk result (λ outs. outs ≡ (after_answer (room_of self.old) (do_command (schema_of self.old.live) self.old.live.table.state command.now)).1) }
+        ensures room { OnOk result (room_of self.new ≡ (after_answer (room_of self.old) (do_command (schema_of self.old.live) self.old.live.table.state command.now)).0) }
+        ensures stands { OnOk result (RoomStands self.new) }
+        ensures places { OnErr result (SamePlaces self.old self.new) }
+    {
+        let alloc = self.alloc;
+        // The rows so far are sound.
+        let _ = self.live.schema();
+        let answer = self.live.apply(command);
+        answered(alloc, answer)
+    }
+
+    /// A row and what is behind it comes into the view of a session.
+    pub fn add_to_view<L: Ledger>(
+        &mut self,
+        session: Id,
+        pair: Pair,
+        steps: &mut Steps<L>,
+    ) -> Result<RoomOuts, Memory>
+        requires stands { RoomStands self.old }
+        requires placed { Placed (room_of self.old) }
+        ensures outs { IfOk result (λ outs. outs ≡ (on_session (room_of self.old) session (view_added_to (schema_of self.old.live) (rows_of self.old.live) pair)).1) }
+        ensures room { OnOk result (room_of self.new ≡ (on_session (room_of self.old) session (view_added_to (schema_of self.old.live) (rows_of self.old.live) pair)).0) }
+        ensures stands { OnOk result (RoomStands self.new) }
+        ensures places { OnErr result (SamePlaces self.old self.new) }
+        ensures cost { OnOk result (steps.new ≤ steps.old + edit_cost (room_of self.old) pair) }
+    {
+        let alloc = self.alloc;
+        let Some(at) = place_of(self.clients.as_slice(), session) else {
+            return refused(alloc, Some(Refusal::NoSession));
+        };
+        let refusal = show_to(&self.live, &mut self.clients[at], pair, steps)?;
+        refused(alloc, refusal)
+    }
+
+    /// A row and what is behind it goes from the view of a session.
+    pub fn take_from_view<L: Ledger>(
+        &mut self,
+        session: Id,
+        pair: Pair,
+        steps: &mut Steps<L>,
+    ) -> Result<RoomOuts, Memory>
+        requires stands { RoomStands self.old }
+        requires placed { Placed (room_of self.old) }
+        ensures outs { IfOk result (λ outs. outs ≡ (on_session (room_of self.old) session (view_removed_from (schema_of self.old.live) (rows_of self.old.live) pair)).1) }
+        ensures room { OnOk result (room_of self.new ≡ (on_session (room_of self.old) session (view_removed_from (schema_of self.old.live) (rows_of self.old.live) pair)).0) }
+        ensures stands { OnOk result (RoomStands self.new) }
+        ensures places { OnErr result (SamePlaces self.old self.new) }
+        ensures cost { OnOk result (steps.new ≤ steps.old + edit_cost (room_of self.old) pair) }
+    {
+        let alloc = self.alloc;
+        let Some(at) = place_of(self.clients.as_slice(), session) else {
+            return refused(alloc, Some(Refusal::NoSession));
+        };
+        let refusal = hide_from(&self.live, &mut self.clients[at], pair, steps)?;
+        refused(alloc, refusal)
+    }
+}
+
+// What the answer to a command gives.
+fn answered(alloc: Global, answer: Result<Option<RefNum>, TableFault>) -> Result<RoomOuts, Memory>
+    ensures { AnswerTells answer result }
+{
+    match answer {
+        Ok(made) => made_out(alloc, made),
+        Err(fault) => refused_by(alloc, fault),
+    }
+}
+
+// The number of a row that was made.
+fn made_out(alloc: Global, made: Option<RefNum>) -> Result<RoomOuts, Memory>
+    ensures { IfOk result (λ outs. outs ≡ made_outs made) }
+{
+    match made {
+        Some(number) => one_out(alloc, RoomOut::Made(number)),
+        None => Ok(Seq::new(alloc)),
+    }
+}
+
+// The refusal of a command; want of memory is none.
+fn refused_by(alloc: Global, fault: TableFault) -> Result<RoomOuts, Memory>
+    ensures { FaultTells fault result }
+{
+    match fault {
+        TableFault::Memory => Err(Memory),
+        fault => one_out(alloc, RoomOut::Refused(Refusal::Table(fault))),
+    }
+}
+
+// The refusal of an act, where there is one.
+fn refused(alloc: Global, refusal: Option<Refusal>) -> Result<RoomOuts, Memory>
+    ensures { IfOk result (λ outs. outs ≡ refused_outs refusal) }
+{
+    match refusal {
+        Some(refusal) => one_out(alloc, RoomOut::Refused(refusal)),
+        None => Ok(Seq::new(alloc)),
+    }
+}
+
+// A row and what is behind it comes into the view of one client, or why it is refused.
+fn show_to<L: Ledger>(
+    live: &LiveState,
+    client: &mut Client,
+    pair: Pair,
+    steps: &mut Steps<L>,
+) -> Result<Option<Refusal>, Memory>
+    requires { are_there (rows_of live.now) client.old.members.now ≡ true }
+    ensures tells { IfOk result (EditTells (view_added_to (schema_of live.now) (rows_of live.now) pair (session_of_client client.old)) client.old client.new) }
+    ensures edited { OnOk result (Edited client.old client.new) }
+    ensures there { OnOk result (are_there (rows_of live.now) client.new.members.now ≡ true) }
+    ensures cost { OnOk result (steps.new ≤ steps.old + places_behind (schema_of live.now) (rows_of live.now) pair.who pair.tag) }
+{
+    if client.stage == Stage::Reserved {
+        return Ok(Some(Refusal::NotHere));
+    }
+    refusal_of(show(live, &mut client.members, pair, steps))
+}
+
+// A row and what is behind it goes from the view of one client, or why it is refused.
+fn hide_from<L: Ledger>(
+    live: &LiveState,
+    client: &mut Client,
+    pair: Pair,
+    steps: &mut Steps<L>,
+) -> Result<Option<Refusal>, Memory>
+    requires { are_there (rows_of live.now) client.old.members.now ≡ true }
+    ensures tells { IfOk result (EditTells (view_removed_from (schema_of live.now) (rows_of live.now) pair (session_of_client client.old)) client.old client.new) }
+    ensures edited { OnOk result (Edited client.old client.new) }
+    ensures there { OnOk result (are_there (rows_of live.now) client.new.members.now ≡ true) }
+    ensures cost { OnOk result (steps.new ≤ steps.old + places_behind (schema_of live.now) (rows_of live.now) pair.who pair.tag) }
+{
+    if client.stage == Stage::Reserved {
+        return Ok(Some(Refusal::NotHere));
+    }
+    refusal_of(hide(live, &mut client.members, pair, steps))
+}
+
+// What the answer to an edit refuses.
+fn refusal_of(answer: Result<(), EditFault>) -> Result<Option<Refusal>, Memory>
+    ensures { Refuses answer result }
+{
+    match answer {
+        Ok(()) => Ok(None),
+        Err(EditFault::NoRef) => Ok(Some(Refusal::Table(TableFault::NoRef))),
+        Err(EditFault::ViewFull) => Ok(Some(Refusal::ViewFull)),
+        Err(EditFault::Memory) => Err(Memory),
+    }
+}

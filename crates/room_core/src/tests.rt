@@ -1,0 +1,4 @@
+//! Rooms, event by event.
+mod eight;
+mod play;
+mod rows;
