@@ -14,8 +14,6 @@ mod numbers;
 mod place;
 mod row;
 mod set;
-#[cfg(test)]
-mod tests;
 mod wanted;
 
 pub use apply::apply_blocks;

@@ -5,8 +5,6 @@ pub mod array_body;
 pub mod fault;
 pub mod map_body;
 pub mod set_body;
-#[cfg(test)]
-mod tests;
 pub mod value_index;
 
 pub use array_body::ArrayBody;

@@ -18,3 +18,5 @@ pub mod ItemSums
 pub mod Accounts
 pub mod RowSums
 pub mod Sweeping
+pub mod LaterLaws
+pub mod LaterAgain

@@ -28,7 +28,7 @@ use Rattle.state_model.specs.Spelled.{is_count, is_spelled_value, is_spelled_key
 use Rattle.state_laws.proofs.Numbers.{entry, row_found, at_live}
 use Rattle.state_laws.proofs.Tests.{all-found, list_all_filtered}
 use Rattle.command_laws.specs.Kept.{IsKept}
-use Rattle.command_laws.specs.Worded.{is_worded_command, key_put}
+use Rattle.state_model.specs.Worded.{is_worded_command, key_put}
 use Rattle.command_laws.proofs.Accepted.{IsAccepted, IsNew, outcome}
 use Rattle.command_laws.proofs.ChangedRows.{after_row}
 use Rattle.command_laws.proofs.EditedRows.{field_in, set_item, list_all_pushed}

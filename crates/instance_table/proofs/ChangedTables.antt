@@ -13,7 +13,7 @@ use Rattle.state_model.specs.Rows.{held_in, place_count, put_row, row_at, text_b
 use Rattle.state_model.specs.State.{State, places_limit, text_limit}
 use Rattle.state_model.specs.Commands.{adds_place, answer_of, do_command, edited, holder_of, is_no_field, made_row, makes_row, number_made, refusal_of, row_for, state_after, value_put, with_change, with_new}
 use Rattle.command_laws.specs.Accounts.{IsFit, is_clear, one_if, replaced, row_text}
-use Rattle.command_laws.specs.Worded.{is_worded_command}
+use Rattle.state_model.specs.Worded.{is_worded_command}
 use Rattle.command_laws.proofs.Accepted.{IsAccepted, accepted}
 use Rattle.command_laws.proofs.Accounts.{accepted_fits, adds_place_is, clear_counts, edited_counts, edited_places, edited_text}
 use Rattle.command_laws.proofs.KeptStates.{command_keeps}

@@ -23,6 +23,4 @@ pub mod NewTables
 pub mod TableSteps
 pub mod AmountLaws
 pub mod RefusalLaws
-pub mod LaterLaws
 pub mod BehindLaws
-pub mod LaterAgain

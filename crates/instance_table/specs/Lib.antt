@@ -4,7 +4,6 @@ pub mod Bodies
 pub mod Changes
 pub mod Graph
 pub mod Holders
-pub mod Later
 pub mod Lists
 pub mod Nodes
 pub mod Table

@@ -19,14 +19,8 @@ mod replaced;
 mod roomy_list;
 mod sweeping;
 mod table;
-#[cfg(test)]
-mod tests;
 mod totals;
-#[cfg(test)]
-mod trial;
 mod typed;
 mod walk;
-mod worded;
 
 pub use table::Table;
-pub use worded::know_texts;

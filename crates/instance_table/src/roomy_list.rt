@@ -3,6 +3,7 @@ ghost use Rattle.std.specs.Prelude.{◌≡◌, ◌≤◌, ◌<◌, [], ◌∷◌
 ghost use Rattle.std.specs.Option.{option_to_list};
 ghost use Rattle.instance_table.specs.Holders.{AscendsFrom};
 
+use lists::make_room;
 use schema_model::{Memory, RefNum};
 use std::alloc::Global;
 use std::marker::Model;
@@ -44,9 +45,7 @@ impl RoomyList {
         ensures ok { OnOk result (room ≤ self.new.room) }
         ensures kept { self.old.room ≤ self.new.room }
     {
-        let more = room.saturating_sub(self.numbers.len());
-        self.numbers.reserve(more)?;
-        Ok(())
+        make_room(&mut self.numbers, room)
     }
 
     /// Adds a number.

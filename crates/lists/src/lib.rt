@@ -4,13 +4,13 @@
 pub mod bytes;
 pub mod memory;
 pub mod rising;
+pub mod room;
 pub mod seq;
-#[cfg(test)]
-mod tests;
 pub mod text;
 
 pub use bytes::Bytes;
 pub use memory::Memory;
 pub use rising::{Keyed, Rising};
+pub use room::make_room;
 pub use seq::Seq;
 pub use text::{Text, TextFault};

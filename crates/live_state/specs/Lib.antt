@@ -1,3 +1,3 @@
 pub mod Live
 pub use Rattle.instance_table.specs.Table
-pub use Rattle.instance_table.specs.Later
+pub use Rattle.command_laws.specs.Later

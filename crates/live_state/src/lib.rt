@@ -3,8 +3,6 @@
 
 mod fault;
 pub mod live;
-#[cfg(test)]
-mod tests;
 
 pub use fault::ExpandFault;
 pub use instance_table::Table;

@@ -7,7 +7,7 @@ ghost use Rattle.state_model.specs.Rows.{is_live, place_count};
 ghost use Rattle.state_model.specs.Spelled.{are_spelled};
 ghost use Rattle.command_laws.specs.Kept.{IsKept};
 ghost use Rattle.instance_table.specs.Behind.{places_behind};
-ghost use Rattle.instance_table.specs.Later.{IsLater};
+ghost use Rattle.command_laws.specs.Later.{IsLater};
 ghost use Rattle.instance_table.specs.Table.{Answers};
 ghost use Rattle.live_state.specs.Live.{new_live, schema_of, rows_of, swept_table, pairs_of};
 

@@ -6,8 +6,6 @@ mod put;
 mod read;
 mod read_items;
 mod read_value;
-#[cfg(test)]
-mod tests;
 
 pub use known::{Known, is_holder, kind_of_row};
 pub use read::{read_op, read_op_on};

@@ -4,5 +4,6 @@ pub mod Faults
 pub mod Happenings
 pub mod MemStreams
 pub mod MemWire
+pub mod Reads
 pub mod Spent
 pub mod Streams

@@ -7,10 +7,6 @@ mod drafts;
 mod open_row;
 mod reading;
 mod run;
-#[cfg(test)]
-mod tests;
-#[cfg(test)]
-mod trial;
 mod whole_row;
 
 pub use decoder::Decoder;

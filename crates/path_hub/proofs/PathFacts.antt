@@ -79,6 +79,22 @@ empty_of_length (x ∷ xs) h = grind (arith, nat_tests, h)
 pub no_filter : (p : FirstPath) → is_playable p ≡ true → p.def.filter ≡ []
 no_filter p h = empty_of_length _ (and_parts _ _ (and_parts _ _ h).0).1
 
+-- its ids are ids
+pub record HasIds (p : FirstPath) : Type 0 where
+  pub process : is_id p.process ≡ true
+  pub room : is_id p.room ≡ true
+  pub session : is_id p.session ≡ true
+
+pub has_ids : (p : FirstPath) → is_playable p ≡ true → HasIds p
+has_ids p h =
+    let to_session = (and_parts _ _ (and_parts _ _ (and_parts _ _ (and_parts _ _ h).0).0).0).0 in
+    let to_room = (and_parts _ (is_id p.session) to_session).0 in
+    record {
+      process = (and_parts (is_number_schema (path_schema p)) (is_id p.process) (and_parts _ (is_id p.room) to_room).0).1;
+      room = (and_parts _ (is_id p.room) to_room).1;
+      session = (and_parts _ (is_id p.session) to_session).1;
+    }
+
 -- its room has a place
 pub has_place : (p : FirstPath) → is_playable p ≡ true → 1 ≤ p.def.max
 has_place p h =

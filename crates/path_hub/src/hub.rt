@@ -1,5 +1,7 @@
-ghost use Rattle.std.specs.Prelude.{◌≡◌, ◌+◌, ◌^◌, ◌<◌, [], ℕ, true, false, IsTrue, IfOk, OnOk, length, is_some};
+ghost use Rattle.std.specs.Prelude.{◌≡◌, ◌+◌, ◌^◌, ◌<◌, [], ◌∷◌, ℕ, true, false, IsTrue, IfOk, OnOk, length, is_some};
 ghost use Rattle.hub_model.specs.Hub.{hub_step, room_stepped};
+ghost use Rattle.hub_model.specs.Replies.{reply_text};
+ghost use Rattle.hub_model.specs.declared.event.HubOut.TheVariants.{Created, Reply};
 ghost use Rattle.room_core.specs.Values.{Held};
 ghost use Rattle.std.specs.Option.{option_map};
 ghost use Rattle.room_model.specs.Room.{after_reserve, new_room};
@@ -105,19 +107,8 @@ impl PathHub {
         ensures fits { OnOk result (Fits path.now self.new.room self.new.conn) }
         ensures some { OnOk result (is_some self.new.room ≡ true) }
     {
+        let outs = asked_outs(alloc, path, conn)?;
         let room = reserved_room(alloc, path, schema, self.now, steps)?;
-        let reply = seat_reply(
-            alloc,
-            1,
-            path.def.max,
-            path.def.name.as_str(),
-            path.process,
-            path.room,
-            path.session,
-        )?;
-        let mut outs = Seq::new(alloc);
-        outs.push(HubOut::Created(path.room, path.def.name.copy(alloc)?))?;
-        outs.push(HubOut::Reply(conn, reply))?;
         self.room = Some(room);
         Ok(outs)
     }
@@ -205,6 +196,26 @@ impl PathHub {
             None => Ok(Seq::new(alloc)),
         }
     }
+}
+
+// What a request gives: that its room was made, and the reply.
+fn asked_outs(alloc: Global, path: &FirstPath, conn: ConnNum) -> Result<HubOuts, Memory>
+    requires { IsTrue (is_playable path.now) }
+    ensures { IfOk result (λ outs. outs ≡ Created path.now.room path.now.def.name ∷ Reply conn (reply_text 1 path.now.def.max path.now.def.name path.now.process path.now.room path.now.session) ∷ []) }
+{
+    let reply = seat_reply(
+        alloc,
+        1,
+        path.def.max,
+        path.def.name.as_str(),
+        path.process,
+        path.room,
+        path.session,
+    )?;
+    let mut outs = Seq::new(alloc);
+    outs.push(HubOut::Created(path.room, path.def.name.copy(alloc)?))?;
+    outs.push(HubOut::Reply(conn, reply))?;
+    Ok(outs)
 }
 
 // The room of a request, with its reservation.

@@ -11,8 +11,6 @@ mod number_set;
 mod reached_rows;
 mod shown;
 mod shown_rows;
-#[cfg(test)]
-mod tests;
 mod view_fields;
 pub mod views;
 

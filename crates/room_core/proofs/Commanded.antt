@@ -8,7 +8,7 @@ use Rattle.state_model.specs.declared.command.TableFault.TheVariants as fault
 use Rattle.state_model.specs.Commands.{do_command}
 use Rattle.state_model.specs.State.{State}
 use Rattle.command_laws.specs.Kept.{IsKept}
-use Rattle.instance_table.specs.Later.{IsLater}
+use Rattle.command_laws.specs.Later.{IsLater}
 use Rattle.instance_table.specs.Table.{TableState, Answers}
 use Rattle.room_model.specs.declared.event.RoomOut.{RoomOut}
 use Rattle.live_state.specs.Live.{Live, schema_of}

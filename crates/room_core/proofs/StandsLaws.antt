@@ -10,8 +10,8 @@ use Rattle.state_model.specs.Commands.{do_command}
 use Rattle.state_model.specs.Members.{Members, no_members}
 use Rattle.state_model.specs.Shown.{permitted}
 use Rattle.command_laws.specs.Kept.{IsKept}
-use Rattle.instance_table.specs.Later.{IsLater}
-use Rattle.instance_table.proofs.LaterAgain.{later_again}
+use Rattle.command_laws.specs.Later.{IsLater}
+use Rattle.command_laws.proofs.LaterAgain.{later_again}
 use Rattle.room_model.specs.declared.event.Stage.{Stage}
 use Rattle.room_model.specs.declared.event.Stage.TheVariants.{Reserved, Joining, Due, Live, Kept}
 use Rattle.room_model.specs.Sessions.{Session, session_of}

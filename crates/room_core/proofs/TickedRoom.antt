@@ -9,9 +9,9 @@ use Rattle.state_model.specs.Rows.{place_count}
 use Rattle.state_model.specs.Shown.{permitted, shared}
 use Rattle.command_laws.specs.Kept.{IsKept}
 use Rattle.command_laws.proofs.ListSums.{sum_by-map}
-use Rattle.instance_table.specs.Later.{IsLater}
+use Rattle.command_laws.specs.Later.{IsLater}
 use Rattle.instance_table.specs.Table.{TableState}
-use Rattle.instance_table.proofs.LaterAgain.{later_again}
+use Rattle.command_laws.proofs.LaterAgain.{later_again}
 use Rattle.room_model.specs.declared.event.Stage.{Stage}
 use Rattle.room_model.specs.declared.event.Stage.TheVariants.{Reserved, Joining, Due, Live, Kept}
 use Rattle.room_model.specs.Room.{RoomValue, session_swept, tick_outs, ticked_at}

@@ -9,7 +9,7 @@ use Rattle.state_model.specs.State.{State}
 use Rattle.wire_model.specs.declared.op.Block.{Block}
 use Rattle.wire_model.specs.Frame.{patch}
 use Rattle.command_laws.specs.Kept.{IsKept}
-use Rattle.instance_table.specs.Later.{IsLater}
+use Rattle.command_laws.specs.Later.{IsLater}
 use Rattle.room_model.specs.declared.event.Stage.{Stage}
 use Rattle.room_model.specs.declared.event.Stage.TheVariants.{Reserved, Joining, Due, Live, Kept}
 use Rattle.live_state.specs.Live.{Live as State-now, schema_of, rows_of}

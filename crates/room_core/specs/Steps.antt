@@ -1,13 +1,16 @@
 -- What events make of the parts of a room.
 use Rattle.std.specs.Prelude.{◌≡◌, ℕ, List, [], ◌∷◌, map, Option, Some, None, Result, Ok, Err, IfOk, IsErr, if◌then◌else◌}
 use Rattle.std.specs.Str.{bytes_eq}
+use Rattle.schema_model.specs.Classes.{Schema}
+use Rattle.schema_model.specs.declared.place.Pair.{Pair}
+use Rattle.state_model.specs.declared.row.RowEntry.{RowEntry}
 use Rattle.room_model.specs.declared.event.RoomOut.{RoomOut}
 use Rattle.room_model.specs.declared.event.RoomOut.TheVariants as out
 use Rattle.room_model.specs.declared.event.Stage.{Stage}
 use Rattle.room_model.specs.declared.event.Stage.TheVariants.{Reserved, Joining, Due, Live, Kept}
 use Rattle.room_model.specs.declared.refusal.Refusal.{Refusal}
 use Rattle.room_model.specs.declared.refusal.Refusal.TheVariants as refusal
-use Rattle.room_model.specs.Sessions.{Acted, acted}
+use Rattle.room_model.specs.Sessions.{Session, Acted, acted, view_added_to, view_removed_from}
 use Rattle.room_model.specs.Room.{made_outs}
 use Rattle.lists.specs.declared.memory.Memory.{Memory}
 use Rattle.state_model.specs.declared.command.TableFault.{TableFault}
@@ -16,6 +19,8 @@ use Rattle.view_edits.specs.declared.fault.EditFault.{EditFault}
 use Rattle.view_edits.specs.declared.fault.EditFault.TheVariants as fault
 use Rattle.room_core.specs.declared.client.Client.{Client}
 use Rattle.room_core.specs.declared.parts.Parts.{Parts}
+use Rattle.room_core.specs.declared.view_edit.ViewEdit.{ViewEdit}
+use Rattle.room_core.specs.declared.view_edit.ViewEdit.TheVariants.{Show, Hide}
 use Rattle.room_core.specs.Values.{session_of_client}
 
 -- the clients, each changed where it is this one
@@ -52,6 +57,11 @@ AnswerTells (Err f) r = FaultTells f r
 abbrev pub EditTells : Result Acted Refusal → Client → Client → Option Refusal → Type 0
 EditTells does old new None = does ≡ acted (session_of_client new) []
 EditTells does old new (Some f) = (does ≡ Err f) × (new ≡ old)
+
+-- what an edit makes of a session
+abbrev pub view_edited : ViewEdit → Schema → List RowEntry → Pair → Session → Result Acted Refusal
+view_edited Show = view_added_to
+view_edited Hide = view_removed_from
 
 -- an edit changes the members alone, and not those of the last tick
 pub record Edited (old new : Client) : Type 0 where

@@ -9,13 +9,14 @@ ghost use Rattle.live_state.specs.Live.{rows_of, schema_of};
 ghost use Rattle.view_edits.specs.There.{are_there};
 ghost use Rattle.room_core.specs.Costs.{edit_cost};
 ghost use Rattle.room_core.specs.Stands.{RoomStands};
-ghost use Rattle.room_core.specs.Steps.{AnswerTells, Edited, EditTells, FaultTells, refused_outs, Refuses, SamePlaces};
+ghost use Rattle.room_core.specs.Steps.{AnswerTells, Edited, EditTells, FaultTells, refused_outs, Refuses, SamePlaces, view_edited};
 ghost use Rattle.room_core.specs.Values.{room_of, session_of_client};
 
 use crate::client::Client;
 use crate::clients::place_of;
 use crate::entering::one_out;
 use crate::parts::Parts;
+use crate::view_edit::ViewEdit;
 use lists::Seq;
 use live_state::LiveState;
 use room_model::{Refusal, RoomOut, RoomOuts, Stage};
@@ -42,17 +43,18 @@ impl Parts {
         answered(alloc, answer)
     }
 
-    /// A row and what is behind it comes into the view of a session.
-    pub fn add_to_view<L: Ledger>(
+    /// A row and what is behind it comes into the view of a session, or goes from it.
+    pub fn edit_view<L: Ledger>(
         &mut self,
+        edit: ViewEdit,
         session: Id,
         pair: Pair,
         steps: &mut Steps<L>,
     ) -> Result<RoomOuts, Memory>
         requires stands { RoomStands self.old }
         requires placed { Placed (room_of self.old) }
-        ensures outs { IfOk result (λ outs. outs ≡ (on_session (room_of self.old) session (view_added_to (schema_of self.old.live) (rows_of self.old.live) pair)).1) }
-        ensures room { OnOk result (room_of self.new ≡ (on_session (room_of self.old) session (view_added_to (schema_of self.old.live) (rows_of self.old.live) pair)).0) }
+        ensures outs { IfOk result (λ outs. outs ≡ (on_session (room_of self.old) session (view_edited edit (schema_of self.old.live) (rows_of self.old.live) pair)).1) }
+        ensures room { OnOk result (room_of self.new ≡ (on_session (room_of self.old) session (view_edited edit (schema_of self.old.live) (rows_of self.old.live) pair)).0) }
         ensures stands { OnOk result (RoomStands self.new) }
         ensures places { OnErr result (SamePlaces self.old self.new) }
         ensures cost { OnOk result (steps.new ≤ steps.old + edit_cost (room_of self.old) pair) }
@@ -61,30 +63,7 @@ impl Parts {
         let Some(at) = place_of(self.clients.as_slice(), session) else {
             return refused(alloc, Some(Refusal::NoSession));
         };
-        let refusal = show_to(&self.live, &mut self.clients[at], pair, steps)?;
-        refused(alloc, refusal)
-    }
-
-    /// A row and what is behind it goes from the view of a session.
-    pub fn take_from_view<L: Ledger>(
-        &mut self,
-        session: Id,
-        pair: Pair,
-        steps: &mut Steps<L>,
-    ) -> Result<RoomOuts, Memory>
-        requires stands { RoomStands self.old }
-        requires placed { Placed (room_of self.old) }
-        ensures outs { IfOk result (λ outs. outs ≡ (on_session (room_of self.old) session (view_removed_from (schema_of self.old.live) (rows_of self.old.live) pair)).1) }
-        ensures room { OnOk result (room_of self.new ≡ (on_session (room_of self.old) session (view_removed_from (schema_of self.old.live) (rows_of self.old.live) pair)).0) }
-        ensures stands { OnOk result (RoomStands self.new) }
-        ensures places { OnErr result (SamePlaces self.old self.new) }
-        ensures cost { OnOk result (steps.new ≤ steps.old + edit_cost (room_of self.old) pair) }
-    {
-        let alloc = self.alloc;
-        let Some(at) = place_of(self.clients.as_slice(), session) else {
-            return refused(alloc, Some(Refusal::NoSession));
-        };
-        let refusal = hide_from(&self.live, &mut self.clients[at], pair, steps)?;
+        let refusal = edit_one(&self.live, &mut self.clients[at], edit, pair, steps)?;
         refused(alloc, refusal)
     }
 }
@@ -126,6 +105,26 @@ fn refused(alloc: Global, refusal: Option<Refusal>) -> Result<RoomOuts, Memory>
     match refusal {
         Some(refusal) => one_out(alloc, RoomOut::Refused(refusal)),
         None => Ok(Seq::new(alloc)),
+    }
+}
+
+// An edit of the view of one client, or why it is refused.
+fn edit_one<L: Ledger>(
+    live: &LiveState,
+    client: &mut Client,
+    edit: ViewEdit,
+    pair: Pair,
+    steps: &mut Steps<L>,
+) -> Result<Option<Refusal>, Memory>
+    requires { are_there (rows_of live.now) client.old.members.now ≡ true }
+    ensures tells { IfOk result (EditTells (view_edited edit (schema_of live.now) (rows_of live.now) pair (session_of_client client.old)) client.old client.new) }
+    ensures edited { OnOk result (Edited client.old client.new) }
+    ensures there { OnOk result (are_there (rows_of live.now) client.new.members.now ≡ true) }
+    ensures cost { OnOk result (steps.new ≤ steps.old + places_behind (schema_of live.now) (rows_of live.now) pair.who pair.tag) }
+{
+    match edit {
+        ViewEdit::Show => show_to(live, client, pair, steps),
+        ViewEdit::Hide => hide_from(live, client, pair, steps),
     }
 }
 

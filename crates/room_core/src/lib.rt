@@ -9,9 +9,8 @@ mod frames;
 mod parts;
 mod places;
 mod room;
-#[cfg(test)]
-mod tests;
 mod ticks;
+mod view_edit;
 
 pub use room::Room;
 pub use room_like::RoomLike;

@@ -14,6 +14,7 @@ ghost use Rattle.room_core.specs.Values.{room_of};
 use crate::clients::{is_there, stage_of};
 use crate::parts::Parts;
 use crate::places::Places;
+use crate::view_edit::ViewEdit;
 use lists::Seq;
 use live_state::LiveState;
 use room_like::{RoomLike, know_event, may_reserve};
@@ -242,8 +243,8 @@ fn perform<L: Ledger>(
 {
     match act {
         Act::State(command) => parts.command(command),
-        Act::ViewAdd(session, pair) => parts.add_to_view(*session, *pair, steps),
-        Act::ViewDel(session, pair) => parts.take_from_view(*session, *pair, steps),
+        Act::ViewAdd(session, pair) => parts.edit_view(ViewEdit::Show, *session, *pair, steps),
+        Act::ViewDel(session, pair) => parts.edit_view(ViewEdit::Hide, *session, *pair, steps),
         _ => unreachable!(),
     }
 }

@@ -2,7 +2,7 @@
 -- what they put is UTF-8 where it is text. Ours.
 use Rattle.std.specs.Prelude.{ℕ, Bool, true, false, List}
 use Rattle.std.specs.Str.{bytes_eq}
-use Rattle.command_laws.specs.Worded.{is_worded_command}
+use Rattle.state_model.specs.Worded.{is_worded_command}
 use Rattle.frame_model.specs.Frames.{client_bytes}
 use Rattle.frame_model.specs.declared.frame.ClientFrame.TheVariants as client
 use Rattle.room_model.specs.declared.event.Act.{Act}

@@ -2,8 +2,8 @@
 ghost use Rattle.std.specs.Prelude.{IsTrue};
 ghost use Rattle.room_like.specs.Taken.{is_worded_event};
 
-use instance_table::know_texts;
 use room_model::{Act, RoomEvent};
+use state_model::know_texts;
 
 /// The texts that an event's command puts, and the keys under which it puts them, are UTF-8. It does nothing else than
 /// to say so.

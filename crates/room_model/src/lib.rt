@@ -5,8 +5,6 @@ pub mod definition;
 pub mod event;
 pub mod refusal;
 pub mod seat;
-#[cfg(test)]
-mod tests;
 
 pub use definition::{Defs, Names, RoomDef, Texts, Words, copy_texts};
 pub use event::{Act, RoomEvent, RoomOut, RoomOuts, Stage};

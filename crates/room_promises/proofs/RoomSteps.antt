@@ -8,7 +8,7 @@ use Rattle.state_model.specs.declared.command.TableFault.{TableFault}
 use Rattle.state_model.specs.State.{State, new_state, swept}
 use Rattle.state_model.specs.Shown.{shared}
 use Rattle.state_model.specs.Commands.{do_command}
-use Rattle.command_laws.specs.Worded.{is_worded_command}
+use Rattle.state_model.specs.Worded.{is_worded_command}
 use Rattle.frame_model.specs.declared.frame.ClientFrame.TheVariants as client
 use Rattle.room_model.specs.declared.definition.RoomDef.{RoomDef}
 use Rattle.room_model.specs.declared.event.Act.TheVariants as act

@@ -14,7 +14,7 @@ use Rattle.state_model.specs.Spelled.{are_spelled}
 use Rattle.state_model.specs.State.{State, new_state, next_item, swept, places_limit, last_number}
 use Rattle.state_model.specs.Commands.{answer_of, do_command, edited, makes_row, number_made, refusal_of, state_after}
 use Rattle.command_laws.specs.Kept.{IsKept}
-use Rattle.command_laws.specs.Worded.{is_worded_command}
+use Rattle.state_model.specs.Worded.{is_worded_command}
 use Rattle.command_laws.proofs.Accepted.{command_accepted, outcome}
 use Rattle.command_laws.proofs.Accounts.{accepted_fits}
 use Rattle.command_laws.proofs.KeptStates.{command_keeps, new_state_kept}
@@ -22,10 +22,10 @@ use Rattle.command_laws.proofs.RowSums.{put_row_sum}
 use Rattle.command_laws.proofs.SoundRows.{sound_rises}
 use Rattle.command_laws.proofs.SpelledStates.{command_spells, sweep_spells}
 use Rattle.command_laws.proofs.SweptStates.{sweep_keeps}
-use Rattle.instance_table.specs.Later.{IsLater}
+use Rattle.command_laws.specs.Later.{IsLater}
 use Rattle.instance_table.proofs.ChangedTables.{places_changed, places_within}
-use Rattle.instance_table.proofs.LaterLaws.{later_same, later_swept, later_command}
-use Rattle.instance_table.proofs.LaterAgain.{later_again}
+use Rattle.command_laws.proofs.LaterLaws.{later_same, later_swept, later_command}
+use Rattle.command_laws.proofs.LaterAgain.{later_again}
 
 -- two states of which the second is later: both are kept and have bytes, and the second is within the limits
 pub record GoodStates (schema : Schema) (last now : State) : Type 0 where

@@ -3,8 +3,9 @@ use Rattle.std.proofs.Common.{◌≡◌, ◌≤◌, ◌<◌, ◌^◌, ℕ, Bool,
 use Rattle.std.specs.Prelude.{◌⊎◌, Result, Ok, Err, IfSome, nat_lt}
 use Rattle.std.specs.Str.{bytes_eq}
 use Rattle.outside.specs.Faults.{Rose}
-use Rattle.streams.specs.Reads.{ReadsAll, Takes, TakesFront}
-use Rattle.streams.proofs.TakeLaws.{whole_front, no_front}
+use Rattle.outside.specs.Reads.{ReadsAll}
+use Rattle.outside.specs.Streams.{Takes, TakesFront}
+use Rattle.outside.proofs.TakeLaws.{whole_front, no_front}
 use Rattle.text_model.specs.declared.path.FirstPath.{FirstPath}
 use Rattle.text_model.specs.declared.path.PathWord.{PathWord}
 use Rattle.text_model.specs.Paths.{Path, IsTextOf, printed}

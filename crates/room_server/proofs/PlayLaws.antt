@@ -13,8 +13,8 @@ use Rattle.text_model.specs.declared.path.FirstPath.{FirstPath}
 use Rattle.text_model.specs.declared.path.Item.{Item}
 use Rattle.path_hub.specs.PathHub.{may_come, may_follow, asked_after}
 use Rattle.room_server.specs.Turns.{told}
-use Rattle.streams.specs.Reads.{Takes, TakesFront}
-use Rattle.streams.proofs.TakeLaws.{takes_none, takes_both, no_front, longer_front, front_behind}
+use Rattle.outside.specs.Streams.{Takes, TakesFront}
+use Rattle.outside.proofs.TakeLaws.{takes_none, takes_both, no_front, longer_front, front_behind}
 
 -- the sink took a front, and this is what is left of the whole
 pub record SoFar (before now : Option (List ℕ)) (rest whole : List ℕ) : Type 0 where

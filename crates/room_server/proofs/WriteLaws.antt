@@ -1,8 +1,8 @@
 -- What calls that write leave at the sink, and its count of faults.
 use Rattle.std.proofs.Common.{◌≡◌, ℕ, List, ◌++◌, Option}
 use Rattle.std.specs.Prelude.{Result, Ok, Err, IsErrAnd}
-use Rattle.streams.specs.Reads.{Takes, TakesFront}
-use Rattle.streams.proofs.TakeLaws.{takes_both, front_behind}
+use Rattle.outside.specs.Streams.{Takes, TakesFront}
+use Rattle.outside.proofs.TakeLaws.{takes_both, front_behind}
 use Rattle.room_server.specs.Endings.{Writes, HasWriteCause}
 
 -- a call that failed has written a front

@@ -1,7 +1,8 @@
 -- How the program ends, and what is then known of the source and the sink.
 use Rattle.std.specs.Prelude.{◌≡◌, ◌⊎◌, ℕ, ◌^◌, ◌≤◌, List, length, Option, Some, None, IsErrOf, Result, Ok, Err, true}
 use Rattle.outside.specs.Faults.{Rose}
-use Rattle.streams.specs.Reads.{Reads, ReadsAll, Takes, TakesFront}
+use Rattle.outside.specs.Reads.{Reads, ReadsAll}
+use Rattle.outside.specs.Streams.{Takes, TakesFront}
 use Rattle.text_model.specs.Paths.{Path, is_path, text_of, first_path, printed, IsTextOf}
 use Rattle.room_server.specs.declared.ending.Ending.{Ending}
 use Rattle.room_server.specs.declared.ending.Ending.TheVariants.{Done, Usage, Refused, ReadFailed, WriteFailed, Memory}

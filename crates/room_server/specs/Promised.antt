@@ -3,7 +3,7 @@ use Rattle.std.specs.Prelude.{ℕ, List, [], ◌∷◌, ◌++◌, take, Option}
 use Rattle.std.specs.List.{flat_map}
 use Rattle.hub_model.specs.Hub.{run_of}
 use Rattle.life_model.specs.Promises.{Promises}
-use Rattle.streams.specs.Reads.{Takes}
+use Rattle.outside.specs.Streams.{Takes}
 use Rattle.text_model.specs.declared.path.FirstPath.{FirstPath}
 use Rattle.text_model.specs.Marks.{lines}
 use Rattle.text_model.specs.Outputs.{out_line}

@@ -12,10 +12,9 @@ ghost use Rattle.room_server.specs.declared.output.WriteFault.TheVariants as fau
 
 use hub_model::HubOuts;
 use lists::Memory;
-use outside::{Failed, Sink};
+use outside::{Failed, Sink, write_all};
 use schedule_text::{print_end, print_fault, print_out, print_schema_lines};
 use std::alloc::Global;
-use streams::write_all;
 use text_model::FirstPath;
 use thiserror::Error;
 

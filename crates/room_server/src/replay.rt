@@ -1,7 +1,7 @@
 //! The command `replay`: runs a schedule and writes what it gives.
 ghost use Rattle.std.specs.Prelude.{None, ◌≡◌, ◌+◌, ◌≤◌, ◌<◌, ◌^◌, ◌++◌, [], ◌∷◌, ℕ, List, false, length, codes, true, IsTrue, is_some, IsErrOf};
 ghost use Rattle.outside.specs.Faults.{Rose};
-ghost use Rattle.streams.specs.Reads.{Reads};
+ghost use Rattle.outside.specs.Reads.{Reads};
 ghost use Rattle.text_model.specs.Marks.{line, lines};
 ghost use Rattle.text_model.specs.Paths.{Path, is_path, first_path, path_schema, printed, schema_lines};
 ghost use Rattle.path_hub.specs.PathHub.{hub_of, Fits, is_playable, may_follow};
@@ -12,7 +12,7 @@ ghost use Rattle.room_server.specs.declared.ending.Ending.TheVariants as ending;
 
 use crate::ending::Ending;
 use crate::output::{WriteFault, write_end, write_outs, write_refusal, write_schema};
-use outside::{Sink, Source};
+use outside::{LIMIT, ReadFault, Sink, Source, read_text};
 use path_hub::{PathHub, schema_of};
 use schedule_text::read_first_path;
 use schema_model::Schema;
@@ -20,7 +20,6 @@ use std::alloc::Global;
 use std::marker::Brand;
 use std::sync::ledger::{Blank, Ledger};
 use steps::Steps;
-use streams::{LIMIT, ReadFault, read_text};
 use text_model::{FirstPath, PathFault, PathWord};
 
 /// Reads a schedule from the source, runs it, and writes what it gives to the sink.

@@ -1,7 +1,8 @@
 //! The one call of the program.
 ghost use Rattle.std.specs.Prelude.{◌≡◌, ◌⊎◌, ◌≤◌, ◌+◌, ◌^◌, ℕ, List, [], ◌∷◌, length, Contains, None, Some, IfSome};
 ghost use Rattle.outside.specs.Faults.{Rose};
-ghost use Rattle.streams.specs.Reads.{Reads, Takes, TakesFront};
+ghost use Rattle.outside.specs.Reads.{Reads};
+ghost use Rattle.outside.specs.Streams.{Takes, TakesFront};
 ghost use Rattle.text_model.specs.Paths.{Path, IsTextOf, first_path};
 ghost use Rattle.room_server.specs.Answers.{output_for};
 ghost use Rattle.room_server.specs.Endings.{status_of, IsReplayed, IsRefused, IsNoSchedule, IsQuiet, IsEnded};

@@ -1,5 +1,3 @@
-mod read_back;
-
 use crate::run::run;
 use lists::{Memory, Seq, Text};
 use outside::{ListClock, ListIds, MemSink, MemSource, MemWire};

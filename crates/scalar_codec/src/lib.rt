@@ -11,6 +11,3 @@ pub use number::{get_number, put_number};
 pub use scalar::{get_scalar, put_scalar};
 pub use schema_model::{ReadFault, ScalarFault};
 pub use text::{get_text, put_text};
-
-#[cfg(test)]
-mod tests;

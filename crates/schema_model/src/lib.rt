@@ -9,8 +9,6 @@ pub mod number;
 pub mod place;
 pub mod scalar;
 pub mod schema;
-#[cfg(test)]
-mod tests;
 pub mod value;
 
 pub use class::{Class, Classes, FieldDecl, Fields, Item, Shape, copy_classes, copy_fields};

@@ -64,6 +64,16 @@ fn append_tag(out: &mut Vec<u8>, tag: Tag) -> Result<(), Memory>
     Ok(())
 }
 
+/// Appends what tags a field, where something does.
+fn append_tagging(out: &mut Vec<u8>, tag: Option<Tag>) -> Result<(), Memory>
+    ensures { OnOk result (out.new.items ≡ out.old.items ++ behind (tagging_words (tagging_of tag))) }
+{
+    match tag {
+        Some(tag) => append_tag(out, tag),
+        None => Ok(()),
+    }
+}
+
 /// Appends the line of a field.
 fn append_field(out: &mut Vec<u8>, classes: &[Class], field: &FieldDecl) -> Result<(), Memory>
     ensures { OnOk result (out.new.items ≡ out.old.items ++ line (line_words (field_line classes.now field.now))) }
@@ -72,9 +82,7 @@ fn append_field(out: &mut Vec<u8>, classes: &[Class], field: &FieldDecl) -> Resu
     append_word(out, field.name.as_slice())?;
     append_grouping(out, field.shape)?;
     append_word(out, item_word(classes, field.shape.item()))?;
-    if let Some(tag) = field.tag {
-        append_tag(out, tag)?;
-    }
+    append_tagging(out, field.tag)?;
     out.push(b'\n')?;
     Ok(())
 }

@@ -8,3 +8,4 @@ pub mod Commands
 pub mod Members
 pub mod Shown
 pub mod Spelled
+pub mod Worded

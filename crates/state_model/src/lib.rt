@@ -5,8 +5,7 @@ pub mod command;
 pub mod place;
 pub mod row;
 pub mod rows;
-#[cfg(test)]
-mod tests;
+pub mod worded;
 
 pub use command::{Command, TableFault};
 pub use place::{Wanted, field_wants, is_filtered, item_wants};
@@ -15,3 +14,4 @@ pub use row::{
     copy_field_values, copy_map_items, copy_set_items, copy_values,
 };
 pub use rows::Rows;
+pub use worded::know_texts;

@@ -2,8 +2,6 @@
 #![tactic(auto)]
 
 pub mod numbered;
-#[cfg(test)]
-mod tests;
 pub mod text_index;
 pub mod tree;
 

@@ -6,7 +6,7 @@ use Rattle.state_model.specs.declared.row.Row.TheVariants.{Struct, Map, Array, S
 use Rattle.state_model.specs.Rows.{row_at}
 use Rattle.state_model.specs.State.{State}
 use Rattle.command_laws.specs.Kept.{IsKept}
-use Rattle.instance_table.specs.Later.{IsLater}
+use Rattle.command_laws.specs.Later.{IsLater}
 use Rattle.state_model.specs.Spelled.{are_spelled}
 use Rattle.wire_laws.specs.PatchLaw.{SameKeys}
 use Rattle.wire_laws.specs.FrameLaw.{Follows}

@@ -3,8 +3,6 @@
 
 pub mod edits;
 pub mod fault;
-#[cfg(test)]
-mod tests;
 
 pub use edits::{forget_freed, hide, show};
 pub use fault::EditFault;

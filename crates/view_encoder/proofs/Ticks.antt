@@ -5,7 +5,7 @@ use Rattle.state_model.specs.Members.{Members}
 use Rattle.state_model.specs.Shown.{permitted}
 use Rattle.state_model.specs.Spelled.{are_spelled}
 use Rattle.command_laws.specs.Kept.{IsKept}
-use Rattle.instance_table.specs.Later.{IsLater}
+use Rattle.command_laws.specs.Later.{IsLater}
 use Rattle.instance_table.specs.Table.{TableState}
 use Rattle.live_state.specs.Live.{Live, schema_of, rows_of}
 use Rattle.view_counts.specs.Settled.{View, LastTick, IsSettled, settled, view_before, view_now}

@@ -1,5 +1,6 @@
 //! The two parts of a state frame.
 ghost use Rattle.std.specs.Prelude.{◌≡◌, ◌+◌, ◌≤◌, ◌++◌, true, false, IfOk, IsTrue};
+ghost use Rattle.state_model.specs.Shown.{shared as shared_rows};
 ghost use Rattle.wire_model.specs.Frame.{patch as patch_of};
 ghost use Rattle.wire_model.specs.OpBytes.{block_bytes};
 ghost use Rattle.wire_model.specs.Resolved.{applied};
@@ -39,7 +40,8 @@ pub fn encode_view<L: Ledger>(
     count_places(view.before(), steps);
     count_places(view.after(), steps);
     let schema = live.schema();
-    frame(alloc, schema, view.before(), view.after(), part)
+    let own = view_part(alloc, schema, view.before(), view.after(), part)?;
+    both_parts(alloc, part, &own)
 }
 
 /// The full state of a client: its permitted view now, from the root alone. It takes a step for each place of the state,
@@ -59,28 +61,42 @@ pub fn encode_full<L: Ledger>(
     count_reads(pairs.len(), steps);
     let schema = live.schema();
     let root = Rows::root_alone(alloc, schema)?;
-    let shared = permitted(alloc, schema, &rows, &[])?;
+    let part = shared_part(alloc, schema, &root, &rows)?;
     let view = permitted(alloc, schema, &rows, pairs.as_slice())?;
-    let part = patch(alloc, schema, &root, &shared)?;
-    frame(alloc, schema, &root, &view, &part)
+    let own = view_part(alloc, schema, &root, &view, &part)?;
+    both_parts(alloc, &part, &own)
 }
 
-// The bytes of the shared part, and of the patch to the new view from what the part leaves of the old one.
-fn frame(
+// The shared part of a full state: the patch from the root alone to what everybody sees.
+fn shared_part(alloc: Global, schema: &Schema, root: &Rows, rows: &Rows) -> Result<Blocks, Memory>
+    ensures { IfOk result (λ part. part ≡ patch_of schema.now root.now (shared_rows schema.now rows.now)) }
+{
+    let shared = permitted(alloc, schema, rows, &[])?;
+    patch(alloc, schema, root, &shared)
+}
+
+// The view part: the patch to the new view from what the shared part leaves of the old one.
+fn view_part(
     alloc: Global,
     schema: &Schema,
     old: &Rows,
     new: &Rows,
     part: &Blocks,
-) -> Result<Bytes, Memory>
-    requires shared { IsTrue (are_writable part.now) }
-    requires own { IsTrue (are_writable (patch_of schema.now (applied schema.now old.now part.now) new.now)) }
-    ensures { IfOk result (λ bytes. bytes ≡ block_bytes part.now true ++ block_bytes (patch_of schema.now (applied schema.now old.now part.now) new.now) false) }
+) -> Result<Blocks, Memory>
+    ensures { IfOk result (λ own. own ≡ patch_of schema.now (applied schema.now old.now part.now) new.now) }
 {
     let left = apply_blocks(alloc, schema, old, part)?;
-    let own = patch(alloc, schema, &left, new)?;
+    patch(alloc, schema, &left, new)
+}
+
+// The bytes of the shared part, and behind them those of the view part.
+fn both_parts(alloc: Global, part: &Blocks, own: &Blocks) -> Result<Bytes, Memory>
+    requires shared { IsTrue (are_writable part.now) }
+    requires own { IsTrue (are_writable own.now) }
+    ensures { IfOk result (λ bytes. bytes ≡ block_bytes part.now true ++ block_bytes own.now false) }
+{
     let mut out = Vec::new(alloc);
     write_blocks(&mut out, part, true)?;
-    write_blocks(&mut out, &own, false)?;
+    write_blocks(&mut out, own, false)?;
     Ok(Bytes::from_vec(out))
 }

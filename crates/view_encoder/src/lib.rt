@@ -2,9 +2,5 @@
 #![tactic(auto)]
 
 pub mod frame;
-#[cfg(test)]
-mod tests;
-#[cfg(test)]
-mod trial;
 
 pub use frame::{encode_full, encode_view};

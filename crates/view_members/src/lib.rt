@@ -7,8 +7,6 @@ mod rank;
 mod ranks;
 mod sets;
 mod standing;
-#[cfg(test)]
-mod tests;
 mod turns;
 
 pub use fault::MemberFault;

@@ -3,7 +3,7 @@ ghost use Rattle.std.specs.Prelude.{◌≡◌, ◌≤◌, ◌<◌, ◌-◌, [], 
 ghost use Rattle.lists.specs.Rising.{find, put, remove};
 ghost use Rattle.view_members.specs.Standings.{itself};
 
-use lists::Memory;
+use lists::{Memory, make_room};
 use std::alloc::Global;
 use std::marker::Model;
 
@@ -56,9 +56,7 @@ impl Ranks {
         ensures ok { OnOk result (room ≤ self.new.room) }
         ensures kept { self.old.room ≤ self.new.room }
     {
-        let more = room.saturating_sub(self.numbers.len());
-        self.numbers.reserve(more)?;
-        Ok(())
+        make_room(&mut self.numbers, room)
     }
 
     /// Puts a rank in its place.

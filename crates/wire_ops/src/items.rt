@@ -97,14 +97,8 @@ impl Items {
         ensures { OnOk result (self.new ≡ put_named number key.now value self.old) }
     {
         self.index = None;
-        let items = mem::replace(&mut self.items, Tree::new(alloc)).into_rising(alloc)?;
-        let kept = without_key(alloc, items, number, key)?;
-        self.items = Tree::from_rising(alloc, kept)?;
-        self.items.put(MapItem {
-            number,
-            key: key.copy(alloc)?,
-            value,
-        })?;
+        let items = mem::replace(&mut self.items, Tree::new(alloc));
+        self.items = with_item(alloc, items, number, key, value)?;
         Ok(())
     }
 
@@ -170,6 +164,26 @@ fn put_by_index(
     Ok(())
 }
 
+// Items with one more. Another number with its key is gone. Looks at all items.
+fn with_item(
+    alloc: Global,
+    items: Tree<MapItem>,
+    number: u32,
+    key: &Text,
+    value: Value,
+) -> Result<Tree<MapItem>, Memory>
+    ensures { IfOk result (λ put. put ≡ put_named number key.now value items) }
+{
+    let kept = without_key(alloc, items.into_rising(alloc)?, number, key)?;
+    let mut put = Tree::from_rising(alloc, kept)?;
+    put.put(MapItem {
+        number,
+        key: key.copy(alloc)?,
+        value,
+    })?;
+    Ok(put)
+}
+
 // A number that was found, unless it is this one.
 fn other_than(number: u32, found: Option<u32>) -> Option<u32>
     ensures { result ≡ other_than number found }
@@ -215,5 +229,11 @@ fn without_key(alloc: Global, items: MapItems, number: u32, key: &Text) -> Resul
 fn is_kept(item: &MapItem, number: u32, key: &Text) -> bool
     ensures { result ≡ ((item.now.number == number) || not (bytes_eq item.now.key key.now)) }
 {
-    item.number == number || item.key.as_slice() != key.as_slice()
+    item.number == number || !has_key(item, key)
+}
+
+fn has_key(item: &MapItem, key: &Text) -> bool
+    ensures { result ≡ bytes_eq item.now.key key.now }
+{
+    item.key.as_slice() == key.as_slice()
 }

@@ -3,15 +3,11 @@
 
 mod carried;
 pub mod effect;
-#[cfg(test)]
-mod effect_tests;
 pub mod holder;
 pub mod items;
 mod key_index;
 pub mod links;
 pub mod slots;
-#[cfg(test)]
-mod tests;
 pub mod write;
 
 pub use holder::Holder;

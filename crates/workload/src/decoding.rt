@@ -1,79 +1,92 @@
-//! The kernels over state bytes.
+//! The kernels over state bytes, and over the rows that they lead to.
 use crate::fault::WorkFault;
-use crate::frames::{deletes, full_state, patch, turns};
-use crate::schema::players_schema;
-use crate::sums::{sum_of_fields, sum_of_rows};
+use crate::frames::{deletes, full_state, patch as patch_frame};
+use crate::game::schema;
+use crate::sums::sum_of_rows;
+use canon_patch::{apply_blocks, patch};
+use lists::Memory;
 use patch_decoder::Decoder;
+use plain_rows::Rows;
+use schema_model::Schema;
 use std::alloc::Global;
 
-// How many patches are decoded, one after another, and over how many players.
-const PATCHES: u32 = 50;
-
+// How many players there are while patches are decoded.
 const PLAYERS: u32 = 10_000;
 
-/// What is measured over state bytes.
-#[derive(Clone, Copy, Debug, PartialEq, Eq)]
-pub enum FrameKernel {
-    Full,
-    Patch,
-    Turns,
-    Deletes,
-}
+// The first numbers that patches set, there and back.
+const THERE: u32 = 20_000;
 
-impl FrameKernel {
-    /// The kernel of this name.
-    pub fn named(name: &str) -> Option<FrameKernel> {
-        match name {
-            "decode_full" => Some(FrameKernel::Full),
-            "decode_patch" => Some(FrameKernel::Patch),
-            "decode_turns" => Some(FrameKernel::Turns),
-            "decode_deletes" => Some(FrameKernel::Deletes),
-            _ => None,
-        }
+const BACK: u32 = 30_000;
+
+/// Decodes the full state of so many players, so many times.
+pub fn decode_full(alloc: Global, players: u32, times: u32) -> Result<u64, WorkFault> {
+    let mut decoder = Decoder::new(alloc, schema(alloc)?)?;
+    let frame = full_state(alloc, players)?;
+    for _ in 0..times {
+        decoder.full(&frame)?;
     }
-
-    /// Does its work over so many players, changes, turns or deletes, and sums up what it gave.
-    pub fn work(self, alloc: Global, size: u32) -> Result<u64, WorkFault> {
-        match self {
-            FrameKernel::Full => decode_full(alloc, size),
-            FrameKernel::Patch => decode_patches(alloc, size),
-            FrameKernel::Turns => decode_turns(alloc, size),
-            FrameKernel::Deletes => decode_deletes(alloc, size),
-        }
-    }
-}
-
-// A decoder of the game's states.
-fn decoder(alloc: Global) -> Result<Decoder, WorkFault> {
-    let schema = players_schema(alloc)?;
-    Ok(Decoder::new(alloc, schema)?)
-}
-
-fn decode_full(alloc: Global, players: u32) -> Result<u64, WorkFault> {
-    let mut decoder = decoder(alloc)?;
-    decoder.full(&full_state(alloc, players)?)?;
     Ok(sum_of_rows(&decoder.rows()?))
 }
 
-fn decode_patches(alloc: Global, changes: u32) -> Result<u64, WorkFault> {
-    let mut decoder = decoder(alloc)?;
-    decoder.full(&full_state(alloc, PLAYERS)?)?;
-    for number in 0..PATCHES {
-        decoder.patch(&patch(alloc, changes, number)?)?;
+/// Decodes a patch of so many changes, and one that changes the same back, so many times.
+pub fn decode_patches(alloc: Global, changes: u32, times: u32) -> Result<u64, WorkFault> {
+    let mut decoder = joined(alloc, PLAYERS)?;
+    let there = patch_frame(alloc, changes, THERE)?;
+    let back = patch_frame(alloc, changes, BACK)?;
+    for _ in 0..times {
+        decoder.patch(&there)?;
+        decoder.patch(&back)?;
     }
-    Ok(sum_of_fields(&decoder.rows()?))
-}
-
-fn decode_turns(alloc: Global, players: u32) -> Result<u64, WorkFault> {
-    let mut decoder = decoder(alloc)?;
-    decoder.full(&full_state(alloc, players)?)?;
-    decoder.patch(&turns(alloc, players)?)?;
     Ok(sum_of_rows(&decoder.rows()?))
 }
 
-fn decode_deletes(alloc: Global, players: u32) -> Result<u64, WorkFault> {
-    let mut decoder = decoder(alloc)?;
-    decoder.full(&full_state(alloc, players)?)?;
-    decoder.patch(&deletes(alloc, players)?)?;
+/// Decodes the full state of so many players and a patch of as many deletes, so many times.
+pub fn decode_deletes(alloc: Global, players: u32, times: u32) -> Result<u64, WorkFault> {
+    let mut decoder = Decoder::new(alloc, schema(alloc)?)?;
+    let full = full_state(alloc, players)?;
+    let patch = deletes(alloc, players)?;
+    for _ in 0..times {
+        decoder.full(&full)?;
+        decoder.patch(&patch)?;
+    }
     Ok(sum_of_rows(&decoder.rows()?))
+}
+
+// A decoder that has the full state of so many players.
+fn joined(alloc: Global, players: u32) -> Result<Decoder, WorkFault> {
+    let mut decoder = Decoder::new(alloc, schema(alloc)?)?;
+    let frame = full_state(alloc, players)?;
+    decoder.full(&frame)?;
+    Ok(decoder)
+}
+
+/// Makes the patch between the rows of so many players and those after every tenth one changed, so many times; where it
+/// is to be applied, it is done to the old rows.
+pub fn compare(alloc: Global, players: u32, times: u32, applied: bool) -> Result<u64, WorkFault> {
+    let schema = schema(alloc)?;
+    let mut decoder = joined(alloc, players)?;
+    let old = decoder.rows()?;
+    decoder.patch(&patch_frame(alloc, players / 10, THERE)?)?;
+    let new = decoder.rows()?;
+    let mut sum: u64 = 0;
+    for _ in 0..times {
+        sum = sum.wrapping_add(compare_once(alloc, &schema, &old, &new, applied)?);
+    }
+    Ok(sum)
+}
+
+fn compare_once(
+    alloc: Global,
+    schema: &Schema,
+    old: &Rows,
+    new: &Rows,
+    applied: bool,
+) -> Result<u64, Memory> {
+    let blocks = patch(alloc, schema, old, new)?;
+    if applied {
+        let rows = apply_blocks(alloc, schema, old, &blocks)?;
+        Ok(sum_of_rows(&rows))
+    } else {
+        Ok(blocks.len() as u64)
+    }
 }

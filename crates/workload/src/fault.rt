@@ -1,22 +1,16 @@
 //! Why work gives no sum.
 use lists::Memory;
 use patch_decoder::OpFault;
+use schema_reader::SchemaFault;
 use state_model::TableFault;
 use thiserror::Error;
-use view_members::MemberFault;
 
 /// Why work gives no sum.
-#[derive(Clone, Copy, Debug, PartialEq, Eq, Error)]
+#[derive(Clone, Copy, Debug, Error)]
 pub enum WorkFault {
-    /// A command was refused: the size is more than a room can have.
-    #[error("refused: {0}")]
-    Refused(TableFault),
-    /// State bytes were refused.
-    #[error("not decoded: {0}")]
-    Undecoded(OpFault),
-    /// A view has too many members.
-    #[error("the view is full")]
-    ViewFull,
+    /// A command or an event was: the size is more than a room can have. Or a schema or a frame was.
+    #[error("refused")]
+    Refused,
     #[error("out of memory")]
     Memory,
 }
@@ -31,7 +25,7 @@ impl From<TableFault> for WorkFault {
     fn from(fault: TableFault) -> Self {
         match fault {
             TableFault::Memory => WorkFault::Memory,
-            _ => WorkFault::Refused(fault),
+            _ => WorkFault::Refused,
         }
     }
 }
@@ -40,16 +34,16 @@ impl From<OpFault> for WorkFault {
     fn from(fault: OpFault) -> Self {
         match fault {
             OpFault::Memory => WorkFault::Memory,
-            _ => WorkFault::Undecoded(fault),
+            _ => WorkFault::Refused,
         }
     }
 }
 
-impl From<MemberFault> for WorkFault {
-    fn from(fault: MemberFault) -> Self {
+impl From<SchemaFault> for WorkFault {
+    fn from(fault: SchemaFault) -> Self {
         match fault {
-            MemberFault::Memory => WorkFault::Memory,
-            MemberFault::ViewFull => WorkFault::ViewFull,
+            SchemaFault::Memory => WorkFault::Memory,
+            _ => WorkFault::Refused,
         }
     }
 }

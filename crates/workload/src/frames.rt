@@ -1,13 +1,14 @@
-//! State bytes of the game that is measured, spelled number by number: the players of `players_state`, each under a key
-//! of six letters.
+//! State bytes of the game that is measured, spelled number by number: players with a name and two numbers.
+use crate::game::{COLLECTION, PLAYERS, ROOT, X, player};
 use lists::Memory;
 use scalar_codec::put_number;
+use schema_model::RefNum;
 use std::alloc::Global;
 
-// A switch to another row, and a type mark.
+// A switch to another row, and the mark of a player.
 const SWITCH: u8 = 255;
 
-const TYPE_MARK: u8 = 213;
+const PLAYER_MARK: [u8; 2] = [213, 1];
 
 // The operations, beside the index of a field.
 const ADD: u8 = 128;
@@ -16,87 +17,70 @@ const REPLACE: u8 = 0;
 
 const DELETE: u8 = 64;
 
-const CLEAR: u8 = 10;
-
-const PLAYER: u8 = 1;
-
-const KEY_LENGTH: u8 = 6;
-
-// The row of a player; its bag is the next one.
-fn row_of(player: u32) -> u32 {
-    player.wrapping_mul(2).wrapping_add(2)
+fn signed(number: u32) -> i32 {
+    i32::try_from(number).unwrap_or(i32::MAX)
 }
 
 fn put(out: &mut Vec<u8>, number: u32) -> Result<(), Memory> {
-    put_number(out, i32::try_from(number).unwrap_or(i32::MAX))
+    put_number(out, signed(number))
 }
 
-fn turn(out: &mut Vec<u8>, row: u32) -> Result<(), Memory> {
-    out.push(SWITCH)?;
-    put(out, row)
-}
-
-// The code of an operation and a number behind it.
+// A code and a number behind it.
 fn code(out: &mut Vec<u8>, code: u8, number: u32) -> Result<(), Memory> {
     out.push(code)?;
     put(out, number)
 }
 
-// A key for each number below 16^6.
-fn key(out: &mut Vec<u8>, number: u32) -> Result<(), Memory> {
-    out.push(0xa0 + KEY_LENGTH)?;
-    for digit in 0..KEY_LENGTH {
-        let low = (number >> (4 * digit)) & 15;
-        out.push(b'a' + low as u8)?;
-    }
+fn turn(out: &mut Vec<u8>, row: RefNum) -> Result<(), Memory> {
+    code(out, SWITCH, row.0)
+}
+
+// A text of less than 32 bytes.
+fn put_text(out: &mut Vec<u8>, text: &str) -> Result<(), Memory> {
+    out.push(0xa0 + (text.len() % 32) as u8)?;
+    out.extend_from_slice(text.as_bytes())?;
     Ok(())
 }
 
 // The item of a player in the map.
-fn item(out: &mut Vec<u8>, player: u32) -> Result<(), Memory> {
-    code(out, ADD, player)?;
-    key(out, player)?;
-    put(out, row_of(player))?;
-    out.extend_from_slice(&[TYPE_MARK, PLAYER])?;
+fn put_item(alloc: Global, out: &mut Vec<u8>, index: u32) -> Result<(), Memory> {
+    code(out, ADD, index)?;
+    put_text(out, &format!(in alloc; "sess{index:05}")?)?;
+    put(out, player(index).0)?;
+    out.extend_from_slice(&PLAYER_MARK)?;
     Ok(())
 }
 
-// A player with its bag: four numbers.
-fn player(out: &mut Vec<u8>, player: u32) -> Result<(), Memory> {
-    let row = row_of(player);
-    turn(out, row)?;
-    code(out, ADD, player)?;
-    code(out, ADD + 1, player)?;
-    code(out, ADD + 2, row.wrapping_add(1))?;
-    turn(out, row.wrapping_add(1))?;
-    out.push(CLEAR)?;
-    for at in 0..4u32 {
-        code(out, ADD, at)?;
-        put(out, at)?;
-    }
-    Ok(())
+// A player: its name, its index, and that below zero.
+fn put_player(alloc: Global, out: &mut Vec<u8>, index: u32) -> Result<(), Memory> {
+    turn(out, player(index))?;
+    out.push(ADD)?;
+    put_text(out, &format!(in alloc; "player {index}")?)?;
+    code(out, ADD + X, index)?;
+    out.push(ADD + X + 1)?;
+    put_number(out, signed(index).wrapping_neg())
 }
 
 /// The full state of so many players.
 pub fn full_state(alloc: Global, players: u32) -> Result<Vec<u8>, Memory> {
     let mut out = Vec::new(alloc);
-    code(&mut out, ADD, 1)?;
-    turn(&mut out, 1)?;
-    for number in 0..players {
-        item(&mut out, number)?;
+    code(&mut out, ADD + PLAYERS, COLLECTION.0)?;
+    turn(&mut out, COLLECTION)?;
+    for index in 0..players {
+        put_item(alloc, &mut out, index)?;
     }
-    for number in 0..players {
-        player(&mut out, number)?;
+    for index in 0..players {
+        put_player(alloc, &mut out, index)?;
     }
     Ok(out)
 }
 
-/// A patch in which so many players, every tenth one, change their first field to a number.
+/// A patch in which so many players, every tenth one, get a first number from this one on.
 pub fn patch(alloc: Global, changes: u32, number: u32) -> Result<Vec<u8>, Memory> {
     let mut out = Vec::new(alloc);
     for change in 0..changes {
-        turn(&mut out, row_of(change.wrapping_mul(10)))?;
-        code(&mut out, REPLACE, number)?;
+        turn(&mut out, player(change.wrapping_mul(10)))?;
+        code(&mut out, REPLACE + X, number.wrapping_add(change))?;
     }
     Ok(out)
 }
@@ -105,19 +89,9 @@ pub fn patch(alloc: Global, changes: u32, number: u32) -> Result<Vec<u8>, Memory
 pub fn deletes(alloc: Global, count: u32) -> Result<Vec<u8>, Memory> {
     let mut out = Vec::new(alloc);
     for number in 0..count {
-        turn(&mut out, 1)?;
+        turn(&mut out, COLLECTION)?;
         code(&mut out, DELETE, number.wrapping_mul(2))?;
-        turn(&mut out, 0)?;
-    }
-    Ok(out)
-}
-
-/// A patch that goes from the map of the players to the root, and back, so many times.
-pub fn turns(alloc: Global, count: u32) -> Result<Vec<u8>, Memory> {
-    let mut out = Vec::new(alloc);
-    for _ in 0..count {
-        turn(&mut out, 1)?;
-        turn(&mut out, 0)?;
+        turn(&mut out, ROOT)?;
     }
     Ok(out)
 }

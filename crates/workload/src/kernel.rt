@@ -1,59 +1,68 @@
 //! What is measured, by name.
-ghost use Rattle.std.specs.Prelude.{◌≤◌, ◌^◌};
-
-use crate::commands::CommandKernel;
-use crate::decoding::FrameKernel;
+use crate::commands::Script;
+use crate::events::Crowd;
 use crate::fault::WorkFault;
-use crate::row_kernel::RowKernel;
-use crate::views::ViewKernel;
+use crate::{decoding, schemas, tables, views};
 use std::alloc::Global;
 
+// Clients who look around.
+const FEW: Crowd = Crowd {
+    clients: 8,
+    turning: 8,
+};
+
+// So many as a room has at most, who don't.
+const MANY: Crowd = Crowd {
+    clients: 64,
+    turning: 0,
+};
+
 /// What is measured.
-#[derive(Clone, Copy, Debug, PartialEq, Eq)]
+#[derive(Clone, Copy)]
 pub enum Kernel {
-    Rows(RowKernel),
-    Commands(CommandKernel),
-    Frames(FrameKernel),
-    Views(ViewKernel),
+    /// Commands on a table.
+    Commands(Script),
+    DecodeFull,
+    DecodePatch,
+    DecodeDeletes,
+    /// The patch between rows.
+    Patch,
+    /// The same patch, and what it makes of the old rows.
+    ApplyBlocks,
+    ReadSchema,
+    /// The ticks of a room with 8 clients, or with 64.
+    ViewsFew,
+    ViewsMany,
 }
 
 impl Kernel {
     /// The kernel of this name.
     pub fn named(name: &str) -> Option<Kernel> {
-        if let Some(kernel) = RowKernel::named(name) {
-            return Some(Kernel::Rows(kernel));
+        match name {
+            "decode_full" => Some(Kernel::DecodeFull),
+            "decode_patch" => Some(Kernel::DecodePatch),
+            "decode_deletes" => Some(Kernel::DecodeDeletes),
+            "patch" => Some(Kernel::Patch),
+            "apply_blocks" => Some(Kernel::ApplyBlocks),
+            "read_schema" => Some(Kernel::ReadSchema),
+            "views_few" => Some(Kernel::ViewsFew),
+            "views_many" => Some(Kernel::ViewsMany),
+            _ => Some(Kernel::Commands(Script::named(name)?)),
         }
-        if let Some(kernel) = CommandKernel::named(name) {
-            return Some(Kernel::Commands(kernel));
-        }
-        if let Some(kernel) = FrameKernel::named(name) {
-            return Some(Kernel::Frames(kernel));
-        }
-        Some(Kernel::Views(ViewKernel::named(name)?))
     }
-}
 
-/// Does the kernel's work of a size, and sums up what it gave. The size is one of rows, where a player has two; of
-/// classes; of what the commands put in and take out; or of players or changes in frames; or of things that are
-/// watched.
-pub fn work(alloc: Global, kernel: Kernel, size: u32) -> Result<u64, WorkFault>
-    requires { size ≤ 2 ^ 24 }
-{
-    match kernel {
-        Kernel::Rows(kernel) => Ok(kernel.work(alloc, size)?),
-        Kernel::Commands(kernel) => kernel.work(alloc, size),
-        Kernel::Frames(kernel) => kernel.work(alloc, size),
-        Kernel::Views(kernel) => kernel.work(alloc, size),
+    /// Does the kernel's work of a size so many times, and sums up what it gave.
+    pub fn work(self, alloc: Global, size: u32, times: u32) -> Result<u64, WorkFault> {
+        match self {
+            Kernel::Commands(script) => tables::play(alloc, script, size, times),
+            Kernel::DecodeFull => decoding::decode_full(alloc, size, times),
+            Kernel::DecodePatch => decoding::decode_patches(alloc, size, times),
+            Kernel::DecodeDeletes => decoding::decode_deletes(alloc, size, times),
+            Kernel::Patch => decoding::compare(alloc, size, times, false),
+            Kernel::ApplyBlocks => decoding::compare(alloc, size, times, true),
+            Kernel::ReadSchema => schemas::read_classes(alloc, size, times),
+            Kernel::ViewsFew => views::watch(alloc, size, FEW, times),
+            Kernel::ViewsMany => views::watch(alloc, size, MANY, times),
+        }
     }
-}
-
-/// Does the kernel's work so many times, and sums up the sums.
-pub fn work_often(alloc: Global, kernel: Kernel, size: u32, times: u32) -> Result<u64, WorkFault>
-    requires { size ≤ 2 ^ 24 }
-{
-    let mut sum: u64 = 0;
-    for _ in 0..times {
-        sum = sum.wrapping_add(work(alloc, kernel, size)?);
-    }
-    Ok(sum)
 }

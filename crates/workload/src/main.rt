@@ -2,31 +2,22 @@
 //! many times, and prints a sum that a second run repeats. Without words, or with others, it prints nothing.
 #![tactic(auto)]
 
-ghost use Rattle.std.specs.Prelude.{◌≤◌, ◌^◌, IfOk, IfSome};
-
-mod classes;
 mod commands;
 mod decoding;
+mod events;
 mod fault;
 mod frames;
+mod game;
 mod kernel;
-mod room;
-mod row_kernel;
-mod rows;
-mod schema;
+mod schemas;
 mod sums;
-#[cfg(test)]
-mod tests;
+mod tables;
 mod views;
-mod watching;
 
 use fault::WorkFault;
-use kernel::{Kernel, work_often};
+use kernel::Kernel;
 use std::process::ExitCode;
 use std::{env, io};
-
-// The largest size.
-const LARGEST: u32 = 1 << 24;
 
 // What is to be done: the work of a kernel, of a size, so many times.
 #[derive(Clone, Copy)]
@@ -37,25 +28,25 @@ struct Task {
 }
 
 // What the words ask for.
-fn asked(rt: &HostRuntime) -> io::Result<Option<Task>>
-    ensures { IfOk result (λ asked. IfSome asked (λ task. task.size ≤ 2 ^ 24)) }
-{
+fn asked(rt: &HostRuntime) -> io::Result<Option<Task>> {
     let mut words = env::args(rt)?.skip(1);
-    let (Some(name), Some(size)) = (words.next(), words.next()) else {
-        return Ok(None);
+    let (name, size, times) = (words.next(), words.next(), words.next());
+    Ok(task_of(name, size, times))
+}
+
+// The task of these words, where they are those of one.
+fn task_of(name: Option<String>, size: Option<String>, times: Option<String>) -> Option<Task> {
+    let name = name?;
+    let size = size?;
+    let times = match times {
+        Some(times) => times.parse::<u32>().ok()?,
+        None => 1,
     };
-    let times = match words.next() {
-        Some(times) => times.parse::<u32>(),
-        None => Ok(1),
-    };
-    match (Kernel::named(&name), size.parse::<u32>(), times) {
-        (Some(kernel), Ok(size), Ok(times)) if size <= LARGEST => Ok(Some(Task {
-            kernel,
-            size,
-            times,
-        })),
-        _ => Ok(None),
-    }
+    Some(Task {
+        kernel: Kernel::named(&name)?,
+        size: size.parse::<u32>().ok()?,
+        times,
+    })
 }
 
 fn main(rt: HostRuntime) -> ExitCode {
@@ -65,13 +56,12 @@ fn main(rt: HostRuntime) -> ExitCode {
     let Some(task) = asked else {
         return ExitCode::SUCCESS;
     };
-    match work_often(rt.alloc(), task.kernel, task.size, task.times) {
+    match task.kernel.work(rt.alloc(), task.size, task.times) {
         Ok(sum) => match println!(rt; "{sum}") {
             Ok(()) => ExitCode::SUCCESS,
             Err(_) => ExitCode::from(5),
         },
-        Err(WorkFault::Refused(_) | WorkFault::Undecoded(_) | WorkFault::ViewFull) =>
-            ExitCode::from(3),
+        Err(WorkFault::Refused) => ExitCode::from(3),
         Err(WorkFault::Memory) => ExitCode::from(7),
     }
 }

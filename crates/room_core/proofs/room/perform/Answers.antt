@@ -6,8 +6,8 @@ use Rattle.room_core.proofs.room.perform.Goals as goal
 
 pub returns-in-ViewAdd-clause-cost : goal.returns-in-ViewAdd-clause-cost
 returns-in-ViewAdd-clause-cost g c =
-    subst (λ (a : Act). OnOk c.add_to_view.result (c.add_to_view.new.steps ≤ c.args.steps.now + act_cost (room_of c.args.parts.now) a)) (sym c.in-ViewAdd.is) c.add_to_view.ensures.cost
+    subst (λ (a : Act). OnOk c.edit_view.result (c.edit_view.new.steps ≤ c.args.steps.now + act_cost (room_of c.args.parts.now) a)) (sym c.in-ViewAdd.is) c.edit_view.ensures.cost
 
 pub returns-in-ViewDel-clause-cost : goal.returns-in-ViewDel-clause-cost
 returns-in-ViewDel-clause-cost g c =
-    subst (λ (a : Act). OnOk c.take_from_view.result (c.take_from_view.new.steps ≤ c.args.steps.now + act_cost (room_of c.args.parts.now) a)) (sym c.in-ViewDel.is) c.take_from_view.ensures.cost
+    subst (λ (a : Act). OnOk c.edit_view-in-ViewDel.result (c.edit_view-in-ViewDel.new.steps ≤ c.args.steps.now + act_cost (room_of c.args.parts.now) a)) (sym c.in-ViewDel.is) c.edit_view-in-ViewDel.ensures.cost

@@ -1,5 +1,5 @@
 use Rattle.std.proofs.Common.{◌∷◌, [], ◌++◌, codes, None}
-use Rattle.streams.proofs.TakeLaws.{longer_front}
+use Rattle.outside.proofs.TakeLaws.{longer_front}
 use Rattle.text_model.specs.Marks.{line, lines}
 use Rattle.text_model.specs.Paths.{schema_lines}
 use Rattle.path_hub.specs.PathHub.{hub_of}

@@ -1,5 +1,5 @@
 use Rattle.std.proofs.Common.{◌∷◌, [], false, length, ap, ◌∙◌, codes, None}
-use Rattle.streams.proofs.TakeLaws.{longer_front}
+use Rattle.outside.proofs.TakeLaws.{longer_front}
 use Rattle.text_model.specs.Marks.{line}
 use Rattle.text_model.specs.Paths.{path_schema}
 use Rattle.text_model.specs.declared.path.FirstPath.{FirstPath}

@@ -2,7 +2,7 @@ use Rattle.std.proofs.Common.{◌≡◌, ◌∙◌, Some, ap, sym, subst, refl}
 use Rattle.state_model.specs.Commands.{answer_of, do_command, number_made, refusal_of, state_after}
 use Rattle.command_laws.specs.Kept.{IsKept}
 use Rattle.instance_table.specs.Table.{TableState}
-use Rattle.instance_table.proofs.LaterLaws.{later_command}
+use Rattle.command_laws.proofs.LaterLaws.{later_command}
 use Rattle.instance_table.proofs.TableSteps.{refused_answers}
 use Rattle.instance_table.proofs.table.Table.apply.Goals as goal
 

@@ -1,8 +1,8 @@
 use Rattle.std.proofs.Common.{sym, subst, arith, ap, ◌∙◌}
 use Rattle.state_model.specs.State.{State}
-use Rattle.instance_table.specs.Later.{IsLater}
+use Rattle.command_laws.specs.Later.{IsLater}
 use Rattle.instance_table.specs.Table.{TableState, freed_numbers, state_in}
-use Rattle.instance_table.proofs.LaterLaws.{later_swept}
+use Rattle.command_laws.proofs.LaterLaws.{later_swept}
 use Rattle.instance_table.proofs.SweptTables.{swept_are, swept_state, swept_table}
 use Rattle.instance_table.proofs.table.Table.sweep.Goals as goal
 

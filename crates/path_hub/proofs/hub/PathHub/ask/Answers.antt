@@ -1,17 +1,22 @@
-use Rattle.std.proofs.Common.{rules, ◌≡◌, ◌∙◌, ◌∷◌, [], ap, sym}
-use Rattle.hub_model.specs.Replies.{reply_text}
-use Rattle.hub_model.specs.declared.event.HubOut.TheVariants as out
+use Rattle.std.proofs.Common.{◌≡◌, ◌∙◌, refl, sym}
 use Rattle.path_hub.proofs.PathFacts.{no_filter, ask_outs, ask_after, ask_fits}
 use Rattle.path_hub.proofs.hub.PathHub.ask.Goals as goal
 
+pub asked_outs-requires : goal.asked_outs-requires
+asked_outs-requires g c = c.requires.path
+
+pub reserved_room-requires-clause-schema : goal.reserved_room-requires-clause-schema
+reserved_room-requires-clause-schema g c = c.requires.schema
+
+pub reserved_room-requires-clause-path : goal.reserved_room-requires-clause-path
+reserved_room-requires-clause-path g c = c.requires.path
+
+pub reserved_room-requires-clause-now : goal.reserved_room-requires-clause-now
+reserved_room-requires-clause-now g c = c.requires.now
+
 pub returns-clause-outs : goal.returns-clause-outs
 returns-clause-outs g c =
-    let path = c.args.path.now in
-    let reply : c.in_ok-reply.reply ≡ reply_text 1 path.def.max path.def.name path.process path.room path.session =
-    c.in_ok-reply.ensures ∙ ap (λ n. reply_text 1 path.def.max n path.process path.room path.session) c.as_str.ensures in
-    let made : c.push-2.new.self ≡ out.Created path.room path.def.name ∷ out.Reply c.args.conn c.in_ok-reply.reply ∷ [] = search rules in
-    made ∙ (ap (λ t. out.Created path.room path.def.name ∷ out.Reply c.args.conn t ∷ []) reply
-    ∙ sym (ask_outs path c.args.schema.now c.args.self.now.now c.args.self.now.room c.args.self.now.conn c.args.conn))
+    c.in_ok-outs.ensures ∙ sym (ask_outs c.args.path.now c.args.schema.now c.args.self.now.now c.args.self.now.room c.args.self.now.conn c.args.conn)
 
 pub returns-clause-after : goal.returns-clause-after
 returns-clause-after g c =
@@ -22,3 +27,6 @@ pub returns-clause-fits : goal.returns-clause-fits
 returns-clause-fits g c =
     ask_fits c.args.path.now c.args.schema.now c.args.self.now.now c.args.self.now.room c.args.self.now.conn c.in_ok-room.room
     c.requires.none c.in_ok-room.ensures c.requires.fits
+
+pub returns-clause-some : goal.returns-clause-some
+returns-clause-some g c = refl

@@ -1,0 +1,13 @@
+use Rattle.std.proofs.Common.{◌≡◌, length, take, ◌-◌, ◌≤◌}
+use Rattle.outside.specs.Streams.{Takes}
+use Rattle.outside.proofs.writing.write_all.Given as goal
+
+abbrev pub invariant-loop-written : goal.invariant-loop-written
+invariant-loop-written g l = record {
+  within : l.written ≤ length l.bytes;
+  took : Takes (g.K.Sink.taken l.fn.sink) (g.K.Sink.taken l.sink) (take l.written l.bytes);
+  quiet : g.K.Sink.faults l.sink ≡ g.K.Sink.faults l.fn.sink;
+}
+
+abbrev pub decreases-loop-written : goal.decreases-loop-written
+decreases-loop-written g l = length l.bytes - l.written

@@ -1,4 +1,0 @@
-//! Rooms, event by event.
-mod eight;
-mod play;
-mod rows;

@@ -1,0 +1,6 @@
+/// What a view edit does to a view.
+#[derive(Clone, Copy)]
+pub enum ViewEdit {
+    Show,
+    Hide,
+}

@@ -1,0 +1,111 @@
+//! Events of a room that clients watch, one behind another.
+use crate::commands::{players, put, random_put};
+use crate::game::player;
+use lists::Memory;
+use rand_pcg::Pcg32;
+use room_core::{Act, RoomEvent};
+use schema_model::{Bytes, Id, Pair, Tag};
+use std::alloc::Global;
+
+// How many numbers a player has.
+const NUMBERS: u8 = 3;
+
+// A client is shown the last number of one player in so many.
+const SHOWN: u32 = 25;
+
+// Between two ticks one number in so many players changes.
+const QUIET: u32 = 100;
+
+/// The clients of a room: how many there are, and how many of them look away from a player at every second tick.
+#[derive(Clone, Copy)]
+pub struct Crowd {
+    pub clients: u8,
+    pub turning: u8,
+}
+
+/// So many players come, and the clients; then there is the tick at which they are sent their full states.
+pub fn beginning(alloc: Global, count: u32, crowd: Crowd) -> Result<Vec<RoomEvent>, Memory> {
+    let mut events = Vec::new(alloc);
+    for command in players(alloc, count)? {
+        events.push(RoomEvent::Act(Act::State(command)))?;
+    }
+    add_numbers(&mut events, count)?;
+    for client in 0..crowd.clients {
+        add_client(alloc, &mut events, client)?;
+        add_shown(&mut events, client, count)?;
+    }
+    events.push(RoomEvent::Tick)?;
+    Ok(events)
+}
+
+// Each of so many players gets its numbers.
+fn add_numbers(events: &mut Vec<RoomEvent>, count: u32) -> Result<(), Memory> {
+    for index in 0..count {
+        for number in 0..NUMBERS {
+            events.push(RoomEvent::Act(Act::State(put(index, number, index))))?;
+        }
+    }
+    Ok(())
+}
+
+// The session of a client.
+fn session(client: u8) -> Id {
+    Id([client; 9])
+}
+
+// A client is reserved, opened and acknowledged.
+fn add_client(alloc: Global, events: &mut Vec<RoomEvent>, client: u8) -> Result<(), Memory> {
+    let session = session(client);
+    events.push(RoomEvent::Reserve(session, 0))?;
+    events.push(RoomEvent::Enter(session, None, session))?;
+    events.push(RoomEvent::Frame(session, Bytes::from_slice(alloc, &[10])?))?;
+    Ok(())
+}
+
+// A client is shown the last number of every so manieth of so many players.
+fn add_shown(events: &mut Vec<RoomEvent>, client: u8, count: u32) -> Result<(), Memory> {
+    for place in 0..count / SHOWN {
+        let act = Act::ViewAdd(session(client), shown(client, place));
+        events.push(RoomEvent::Act(act))?;
+    }
+    Ok(())
+}
+
+// What a client is shown at a place among the others.
+fn shown(client: u8, place: u32) -> Pair {
+    let first = u32::from(client) % SHOWN;
+    Pair {
+        who: player(place.wrapping_mul(SHOWN).wrapping_add(first)),
+        tag: Tag(-1),
+    }
+}
+
+/// Some of so many players get a number, some of the clients look away from a player, or back, and there is a tick.
+pub fn round(
+    alloc: Global,
+    random: &mut Pcg32,
+    count: u32,
+    crowd: Crowd,
+    away: bool,
+) -> Result<Vec<RoomEvent>, Memory> {
+    let mut events = Vec::new(alloc);
+    for _ in 0..count / QUIET {
+        let command = random_put(random, count, NUMBERS);
+        events.push(RoomEvent::Act(Act::State(command)))?;
+    }
+    for client in 0..crowd.turning {
+        events.push(RoomEvent::Act(turn(client, away)))?;
+    }
+    events.push(RoomEvent::Tick)?;
+    Ok(events)
+}
+
+// A client looks away from the first player that it is shown, or back.
+fn turn(client: u8, away: bool) -> Act {
+    let pair = shown(client, 0);
+    if away {
+        Act::ViewDel(session(client), pair)
+    } else {
+        Act::ViewAdd(session(client), pair)
+    }
+}
