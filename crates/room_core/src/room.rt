@@ -145,9 +145,9 @@ impl RoomLike for Room {
             alloc,
             def: def.copy(alloc)?,
             criteria: copy_texts(alloc, criteria)?,
-            live: LiveState::new(alloc, schema.copy(alloc)?)?,
-            shared: ViewCounts::new(alloc, schema)?,
             none: Members::new(alloc)?,
+            shared: ViewCounts::new(alloc, schema)?,
+            live: LiveState::new(alloc, schema.copy(alloc)?)?,
             places: Places::new(alloc),
             clients: Vec::new(alloc),
         };

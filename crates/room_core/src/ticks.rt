@@ -1,10 +1,11 @@
 //! A tick: what each client is sent.
-ghost use Rattle.std.specs.Prelude.{◌≡◌, ◌+◌, ◌≤◌, ◌++◌, map, All, IfOk, OnErr, OnOk};
+ghost use Rattle.std.specs.Prelude.{◌≡◌, ◌+◌, ◌≤◌, ◌++◌, true, map, All, IfOk, OnErr, OnOk};
 ghost use Rattle.std.specs.List.{flat_map, sum_by};
 ghost use Rattle.instance_table.specs.Table.{TableState};
 ghost use Rattle.room_model.specs.Room.{after_tick, tick_outs};
 ghost use Rattle.live_state.specs.Live.{rows_of, schema_of, swept_table};
 ghost use Rattle.view_counts.specs.Settled.{view_before};
+ghost use Rattle.view_edits.specs.There.{are_there};
 ghost use Rattle.room_core.specs.Costs.{session_cost, tick_cost};
 ghost use Rattle.room_core.specs.Stands.{CanSee, CanTick, ClientStands, RoomStands};
 ghost use Rattle.room_core.specs.Steps.{SamePlaces};
@@ -65,8 +66,17 @@ fn forget_all(live: &LiveState, clients: &mut Vec<Client>)
     ensures there { AllThere (rows_of live.now) clients.new.items }
 {
     for client in clients.iter_mut() {
-        forget_freed(live, &mut client.members);
+        forget_in_view(live, client);
     }
+}
+
+// The same of a client's view.
+fn forget_in_view(live: &LiveState, client: &mut Client)
+    requires { (old : TableState) × (live.now.table ≡ swept_table old) × (are_there old.state.rows client.old.members.now ≡ true) }
+    ensures client { client.new ≡ client_swept (rows_of live.now) client.old }
+    ensures there { are_there (rows_of live.now) client.new.members.now ≡ true }
+{
+    forget_freed(live, &mut client.members);
 }
 
 // The tick of each client: what they are sent, one after another.

@@ -137,10 +137,22 @@ fn change<L: Ledger>(
     let rows = game.room.state().rows()?;
     let holder = later_row(random, &rows).ok_or("no rows")?;
     let other = random_row(random, &rows).ok_or("no rows")?;
+    change_row(rt, alloc, game, random, holder, other.who, steps)
+}
+
+fn change_row<L: Ledger>(
+    rt: &impl Abort,
+    alloc: Global,
+    game: &mut Game,
+    random: &mut Pcg32,
+    holder: &RowEntry,
+    other: RefNum,
+    steps: &mut Steps<L>,
+) -> Result<(), Fail> {
     let field = (random.next_word() % 3) as u8;
     let held = match random.next_word() % 8 {
         0..=3 => perform(rt, alloc, game, making(&holder.row, field), steps)?,
-        4 => Some(other.who),
+        4 => Some(other),
         _ => None,
     };
     let command = match held {
@@ -207,13 +219,27 @@ fn pass_all<L: Ledger>(
         perform(rt, alloc, game, command_of(alloc, text)?, &mut steps)?;
     }
     for tick in 0..TICKS {
-        for _ in 0..CHANGES {
-            change(rt, alloc, game, &mut random, &mut steps)?;
-        }
-        come_next(rt, alloc, game, tick, &mut steps)?;
-        edit_all(rt, alloc, game, &mut random, &mut steps)?;
-        game.give(rt, alloc, &RoomEvent::Tick, &mut steps)?;
+        pass(rt, alloc, game, &mut random, tick, &mut steps)?;
     }
+    let rows = game.room.state().rows()?;
+    assert!(rt; rows.as_slice().len() > 16, "the state stayed small");
+    Ok(())
+}
+
+fn pass<L: Ledger>(
+    rt: &impl Abort,
+    alloc: Global,
+    game: &mut Game,
+    random: &mut Pcg32,
+    tick: u32,
+    steps: &mut Steps<L>,
+) -> Result<(), Fail> {
+    for _ in 0..CHANGES {
+        change(rt, alloc, game, random, steps)?;
+    }
+    come_next(rt, alloc, game, tick, steps)?;
+    edit_all(rt, alloc, game, random, steps)?;
+    game.give(rt, alloc, &RoomEvent::Tick, steps)?;
     Ok(())
 }
 
@@ -221,10 +247,5 @@ fn pass_all<L: Ledger>(
 fn each_client_decodes_what_it_may_see(rt: HostRuntime) -> Result<(), Fail> {
     let schema = schema_of(rt.alloc(), TABLE)?;
     let mut game = Game::new(rt.alloc(), &schema, u32::from(CLIENTS))?;
-    pass_all::<Brand>(&rt, rt.alloc(), &mut game, Blank::new(1))?;
-    assert!(rt;
-        game.room.state().rows()?.as_slice().len() > 16,
-        "the state stayed small"
-    );
-    Ok(())
+    pass_all::<Brand>(&rt, rt.alloc(), &mut game, Blank::new(1))
 }

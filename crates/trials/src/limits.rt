@@ -3,6 +3,7 @@ use crate::table::{GAME, NODES, run};
 use lists::Memory;
 use schema_model::{Pair, RefNum, Tag};
 use std::alloc::Global;
+use std::process::Abort;
 use std::test::Fail;
 use view_members::{MemberFault, Members};
 
@@ -124,26 +125,40 @@ fn many(alloc: Global) -> Result<Vec<Pair>, Memory> {
     Ok(many)
 }
 
-#[test]
-fn a_view_has_65_536_pairs(rt: HostRuntime) -> Result<(), Fail> {
-    let many = many(rt.alloc())?;
-    let mut members = Members::new(rt.alloc())?;
-    members.add_all(many.as_slice())?;
+// No pair of these comes into a view.
+fn is_full(members: &mut Members, pairs: &[Pair]) -> Result<(), Fail> {
+    match members.add_all(pairs) {
+        Err(MemberFault::ViewFull) => Ok(()),
+        _ => Err(Fail::new("the view isn't full")),
+    }
+}
+
+// A view with all pairs but one is filled.
+fn fill(members: &mut Members) -> Result<(), Fail> {
     // One is left, and a pair that repeats counts once.
-    let two = [pair(300, 0), pair(300, 1)];
-    assert_eq!(rt; members.add_all(&two), Err(MemberFault::ViewFull));
-    assert_eq!(rt; members.pairs()?.as_slice(), many.as_slice());
+    is_full(members, &[pair(300, 0), pair(300, 1)])?;
     members.add_all(&[pair(0, 0), pair(9, 9), pair(0, 0)])?;
-    let one = [pair(300, 0)];
-    assert_eq!(rt; members.add_all(&one), Err(MemberFault::ViewFull));
+    is_full(members, &[pair(300, 0)])?;
     // One that left counts until the tick, and may come again.
     members.remove(pair(9, 9));
-    assert_eq!(rt; members.add_all(&one), Err(MemberFault::ViewFull));
+    is_full(members, &[pair(300, 0)])?;
     members.add_all(&[pair(9, 9)])?;
     members.remove(pair(9, 9));
     members.end_tick();
-    members.add_all(&one)?;
-    assert_eq!(rt; members.add_all(&[pair(9, 9)]), Err(MemberFault::ViewFull));
+    members.add_all(&[pair(300, 0)])?;
+    is_full(members, &[pair(9, 9)])
+}
+
+fn check_view(rt: &impl Abort, members: &mut Members, many: &[Pair]) -> Result<(), Fail> {
+    members.add_all(many)?;
+    assert_eq!(rt; members.pairs()?.as_slice(), many);
+    fill(members)?;
     assert_eq!(rt; members.pairs()?.len(), 65536);
     Ok(())
+}
+
+#[test]
+fn a_view_has_65_536_pairs(rt: HostRuntime) -> Result<(), Fail> {
+    let mut members = Members::new(rt.alloc())?;
+    check_view(&rt, &mut members, &many(rt.alloc())?)
 }

@@ -70,25 +70,34 @@ pub fn value_of(alloc: Global, word: &str) -> Result<Value, Fail> {
 /// A command: `put 2 0 'a`, with the names and the order of the parts that commands have.
 pub fn command_of(alloc: Global, text: &str) -> Result<Command, Fail> {
     let words: Vec<&str> = text.split(' ').collect(alloc)?;
-    match *words.as_slice() {
-        ["make", class] => Ok(Command::Make(TypeNum(class.parse::<u32>()?))),
-        ["makefor", class, field] => {
-            let class = TypeNum(class.parse::<u32>()?);
-            let field = field.parse::<u8>()?;
-            Ok(Command::MakeFor(Home { class, field }))
-        }
-        ["clear", who] => Ok(Command::Clear(row_of(who)?)),
+    command_in(alloc, &words)
+}
+
+fn command_in(alloc: Global, words: &[&str]) -> Result<Command, Fail> {
+    match *words {
+        [verb, word] => command_alone(verb, word),
         [verb, who, word] => command_with(alloc, verb, row_of(who)?, word),
-        [verb, who, place, word] => {
-            command_at(alloc, verb, row_of(who)?, place, value_of(alloc, word)?)
-        }
+        [verb, who, place, word] => command_at(alloc, verb, row_of(who)?, place, word),
         _ => Err(Fail::new("no command")),
     }
 }
 
-// A command on a row with one word more.
+// A command with one word.
+fn command_alone(verb: &str, word: &str) -> Result<Command, Fail> {
+    match verb {
+        "make" => Ok(Command::Make(TypeNum(word.parse::<u32>()?))),
+        "clear" => Ok(Command::Clear(row_of(word)?)),
+        _ => Err(Fail::new("no command")),
+    }
+}
+
+// A command on a row with one word more; `makefor` has a class in the place of a row.
 fn command_with(alloc: Global, verb: &str, who: RefNum, word: &str) -> Result<Command, Fail> {
     match verb {
+        "makefor" => Ok(Command::MakeFor(Home {
+            class: TypeNum(who.0),
+            field: word.parse::<u8>()?,
+        })),
         "unset" => Ok(Command::Unset(who, word.parse::<u8>()?)),
         "delkey" => Ok(Command::DelKey(who, text_of(alloc, word)?)),
         "push" => Ok(Command::Push(who, value_of(alloc, word)?)),
@@ -105,8 +114,9 @@ fn command_at(
     verb: &str,
     who: RefNum,
     place: &str,
-    value: Value,
+    word: &str,
 ) -> Result<Command, Fail> {
+    let value = value_of(alloc, word)?;
     match verb {
         "put" => Ok(Command::Put(who, place.parse::<u8>()?, value)),
         "putkey" => Ok(Command::PutKey(who, text_of(alloc, place)?, value)),

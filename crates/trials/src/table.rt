@@ -107,32 +107,42 @@ fn answer<L: Ledger>(
     text: &str,
     steps: &mut Steps<L>,
 ) -> Result<String, Fail> {
+    if text == "sweep" {
+        table.sweep();
+        return Ok(told_numbers(alloc, table.swept())?);
+    }
     let words: Vec<&str> = text.split(' ').collect(alloc)?;
-    match *words.as_slice() {
-        ["sweep"] => {
-            table.sweep();
-            Ok(told_numbers(alloc, table.swept())?)
-        }
-        ["holders", who] => holders(alloc, table, row_of(who)?, steps),
-        ["behind", who, tag] => behind(alloc, table, row_of(who)?, tag, steps),
-        ["field", who, field] => {
-            look(
-                alloc,
-                table,
-                row_of(who)?,
-                Key::Field(field.parse::<u8>()?),
-                steps,
-            )
-        }
-        ["item", who, item] => look(
-            alloc,
-            table,
-            row_of(who)?,
-            Key::Item(row_of(item)?.0),
-            steps,
-        ),
-        ["at", who, at] => look(alloc, table, row_of(who)?, Key::At(row_of(at)?.0), steps),
-        _ => command(alloc, table, text),
+    match found(alloc, table, &words, steps)? {
+        Some(found) => Ok(found),
+        None => command(alloc, table, text),
+    }
+}
+
+// What is found at words that are no command.
+fn found<L: Ledger>(
+    alloc: Global,
+    table: &Table,
+    words: &[&str],
+    steps: &mut Steps<L>,
+) -> Result<Option<String>, Fail> {
+    match *words {
+        ["holders", who] => Ok(Some(holders(alloc, table, row_of(who)?, steps)?)),
+        ["behind", who, tag] => Ok(Some(behind(alloc, table, row_of(who)?, tag, steps)?)),
+        [verb, who, place] => match key_of(verb, place)? {
+            Some(key) => Ok(Some(look(alloc, table, row_of(who)?, key, steps)?)),
+            None => Ok(None),
+        },
+        _ => Ok(None),
+    }
+}
+
+// The place of a row that is looked at.
+fn key_of(verb: &str, place: &str) -> Result<Option<Key>, Fail> {
+    match verb {
+        "field" => Ok(Some(Key::Field(place.parse::<u8>()?))),
+        "item" => Ok(Some(Key::Item(place.parse::<u32>()?))),
+        "at" => Ok(Some(Key::At(place.parse::<u32>()?))),
+        _ => Ok(None),
     }
 }
 

@@ -48,18 +48,37 @@ pub fn coming(alloc: Global, session: Id) -> Result<Vec<RoomEvent>, Memory> {
 // `tick` or a command.
 fn event_of(alloc: Global, text: &str) -> Result<RoomEvent, Fail> {
     let words: Vec<&str> = text.split(' ').collect(alloc)?;
-    match *words.as_slice() {
-        ["tick"] => Ok(RoomEvent::Tick),
-        ["reserve", session] => Ok(RoomEvent::Reserve(id_of(session)?, 15_000)),
-        ["acknowledge", session] => Ok(acknowledge(alloc, id_of(session)?)?),
-        ["open", session, token] => Ok(RoomEvent::Enter(id_of(session)?, None, id_of(token)?)),
-        ["viewadd", session, who] => {
-            Ok(RoomEvent::Act(Act::ViewAdd(id_of(session)?, pair_of(who)?)))
-        }
-        ["viewdel", session, who] => {
-            Ok(RoomEvent::Act(Act::ViewDel(id_of(session)?, pair_of(who)?)))
-        }
-        _ => Ok(RoomEvent::Act(Act::State(command_of(alloc, text)?))),
+    match event_in(alloc, &words)? {
+        Some(event) => Ok(event),
+        None => Ok(RoomEvent::Act(Act::State(command_of(alloc, text)?))),
+    }
+}
+
+// An event that is no command.
+fn event_in(alloc: Global, words: &[&str]) -> Result<Option<RoomEvent>, Fail> {
+    match *words {
+        ["tick"] => Ok(Some(RoomEvent::Tick)),
+        [verb, session] => session_event(alloc, verb, session),
+        [verb, session, other] => session_event_with(verb, session, other),
+        _ => Ok(None),
+    }
+}
+
+fn session_event(alloc: Global, verb: &str, session: &str) -> Result<Option<RoomEvent>, Fail> {
+    match verb {
+        "reserve" => Ok(Some(RoomEvent::Reserve(id_of(session)?, 15_000))),
+        "acknowledge" => Ok(Some(acknowledge(alloc, id_of(session)?)?)),
+        _ => Ok(None),
+    }
+}
+
+// An event of a session with a token, or a row that it looks at.
+fn session_event_with(verb: &str, session: &str, other: &str) -> Result<Option<RoomEvent>, Fail> {
+    match verb {
+        "open" => Ok(Some(RoomEvent::Enter(id_of(session)?, None, id_of(other)?))),
+        "viewadd" => Ok(Some(RoomEvent::Act(Act::ViewAdd(id_of(session)?, pair_of(other)?)))),
+        "viewdel" => Ok(Some(RoomEvent::Act(Act::ViewDel(id_of(session)?, pair_of(other)?)))),
+        _ => Ok(None),
     }
 }
 

@@ -27,28 +27,21 @@ pub enum Script {
 }
 
 impl Script {
-    /// The commands of this name.
-    pub fn named(name: &str) -> Option<Script> {
-        match name {
-            "things" => Some(Script::Things),
-            "players" => Some(Script::Players),
-            "numbers_back" => Some(Script::NumbersBack),
-            "numbers_front" => Some(Script::NumbersFront),
-            "chain_up" => Some(Script::ChainUp),
-            "held_swept" => Some(Script::HeldSwept),
-            _ => None,
-        }
-    }
-
     /// The commands of a size.
     pub fn commands(self, alloc: Global, size: u32) -> Result<Vec<Command>, Memory> {
+        let mut commands = Vec::new(alloc);
+        self.add(alloc, &mut commands, size)?;
+        Ok(commands)
+    }
+
+    fn add(self, alloc: Global, commands: &mut Vec<Command>, size: u32) -> Result<(), Memory> {
         match self {
-            Script::Things => things(alloc, size),
-            Script::Players => come_and_leave(alloc, size),
-            Script::NumbersBack => pop_back(alloc, size),
-            Script::NumbersFront => pop_front(alloc, size),
-            Script::ChainUp => chain_up(alloc, size),
-            Script::HeldSwept => hold(alloc, size),
+            Script::Things => add_things(alloc, commands, size),
+            Script::Players => add_passing(alloc, commands, size),
+            Script::NumbersBack => add_back(commands, size),
+            Script::NumbersFront => add_front(commands, size),
+            Script::ChainUp => add_chain(commands, size),
+            Script::HeldSwept => add_held(commands, size),
         }
     }
 }
@@ -65,14 +58,13 @@ fn whole(number: u32) -> Value {
 }
 
 // Makes the collection of a field of the root, and puts it there.
-fn collection(alloc: Global, field: u8) -> Result<Vec<Command>, Memory> {
-    let mut commands = Vec::new(alloc);
+fn add_collection(commands: &mut Vec<Command>, field: u8) -> Result<(), Memory> {
     commands.push(Command::MakeFor(Home {
         class: STATE,
         field,
     }))?;
     commands.push(Command::Put(ROOT, field, link(COLLECTION)))?;
-    Ok(commands)
+    Ok(())
 }
 
 // The key of the player of an index.
@@ -81,13 +73,13 @@ fn key(alloc: Global, index: u32) -> Result<Text, Memory> {
 }
 
 /// So many players come into a map.
-pub fn players(alloc: Global, count: u32) -> Result<Vec<Command>, Memory> {
-    let mut commands = collection(alloc, PLAYERS)?;
+pub fn add_players(alloc: Global, commands: &mut Vec<Command>, count: u32) -> Result<(), Memory> {
+    add_collection(commands, PLAYERS)?;
     for index in 0..count {
         commands.push(Command::Make(PLAYER))?;
         commands.push(Command::PutKey(COLLECTION, key(alloc, index)?, link(player(index))))?;
     }
-    Ok(commands)
+    Ok(())
 }
 
 /// A player gets one of its numbers.
@@ -107,50 +99,49 @@ pub fn random() -> Pcg32 {
     Pcg32::new(42, 54)
 }
 
-fn things(alloc: Global, count: u32) -> Result<Vec<Command>, Memory> {
-    let mut commands = players(alloc, count)?;
+fn add_things(alloc: Global, commands: &mut Vec<Command>, count: u32) -> Result<(), Memory> {
+    add_players(alloc, commands, count)?;
     let mut random = random();
     for _ in 0..count.saturating_mul(PUTS) {
         commands.push(random_put(&mut random, count, 2))?;
     }
-    Ok(commands)
+    Ok(())
 }
 
-fn come_and_leave(alloc: Global, count: u32) -> Result<Vec<Command>, Memory> {
-    let mut commands = players(alloc, count)?;
+fn add_passing(alloc: Global, commands: &mut Vec<Command>, count: u32) -> Result<(), Memory> {
+    add_players(alloc, commands, count)?;
     for index in 0..count {
         commands.push(Command::DelKey(COLLECTION, key(alloc, index)?))?;
     }
-    Ok(commands)
+    Ok(())
 }
 
-fn push_numbers(alloc: Global, count: u32) -> Result<Vec<Command>, Memory> {
-    let mut commands = collection(alloc, NUMBERS)?;
+fn add_numbers(commands: &mut Vec<Command>, count: u32) -> Result<(), Memory> {
+    add_collection(commands, NUMBERS)?;
     for number in 0..count {
         commands.push(Command::Push(COLLECTION, whole(number)))?;
     }
-    Ok(commands)
+    Ok(())
 }
 
-fn pop_back(alloc: Global, count: u32) -> Result<Vec<Command>, Memory> {
-    let mut commands = push_numbers(alloc, count)?;
+fn add_back(commands: &mut Vec<Command>, count: u32) -> Result<(), Memory> {
+    add_numbers(commands, count)?;
     for place in (0..count).rev() {
         commands.push(Command::DelAt(COLLECTION, place))?;
     }
-    Ok(commands)
+    Ok(())
 }
 
-fn pop_front(alloc: Global, count: u32) -> Result<Vec<Command>, Memory> {
-    let mut commands = push_numbers(alloc, count)?;
+fn add_front(commands: &mut Vec<Command>, count: u32) -> Result<(), Memory> {
+    add_numbers(commands, count)?;
     for _ in 0..count {
         commands.push(Command::DelAt(COLLECTION, 0))?;
     }
-    Ok(commands)
+    Ok(())
 }
 
 // The links are the rows behind the root.
-fn chain_up(alloc: Global, count: u32) -> Result<Vec<Command>, Memory> {
-    let mut commands = Vec::new(alloc);
+fn add_chain(commands: &mut Vec<Command>, count: u32) -> Result<(), Memory> {
     for _ in 0..count {
         commands.push(Command::Make(LINK))?;
     }
@@ -158,15 +149,15 @@ fn chain_up(alloc: Global, count: u32) -> Result<Vec<Command>, Memory> {
         commands.push(Command::Put(RefNum(number), NEXT, link(RefNum(number + 1))))?;
     }
     commands.push(Command::Put(ROOT, CHAIN, link(RefNum(1))))?;
-    Ok(commands)
+    Ok(())
 }
 
-fn hold(alloc: Global, times: u32) -> Result<Vec<Command>, Memory> {
-    let mut commands = collection(alloc, HELD)?;
+fn add_held(commands: &mut Vec<Command>, times: u32) -> Result<(), Memory> {
+    add_collection(commands, HELD)?;
     commands.push(Command::Make(PLAYER))?;
     for _ in 0..times {
         commands.push(Command::Push(COLLECTION, link(player(0))))?;
     }
     commands.push(Command::Unset(ROOT, HELD))?;
-    Ok(commands)
+    Ok(())
 }

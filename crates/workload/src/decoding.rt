@@ -5,7 +5,7 @@ use crate::game::schema;
 use crate::sums::sum_of_rows;
 use canon_patch::{apply_blocks, patch};
 use lists::Memory;
-use patch_decoder::Decoder;
+use patch_decoder::{Decoder, OpFault};
 use plain_rows::Rows;
 use schema_model::Schema;
 use std::alloc::Global;
@@ -18,59 +18,106 @@ const THERE: u32 = 20_000;
 
 const BACK: u32 = 30_000;
 
-/// Decodes the full state of so many players, so many times.
-pub fn decode_full(alloc: Global, players: u32, times: u32) -> Result<u64, WorkFault> {
-    let mut decoder = Decoder::new(alloc, schema(alloc)?)?;
-    let frame = full_state(alloc, players)?;
+// State bytes: a full state, or a patch.
+#[derive(Clone, Copy)]
+enum Frame<'a> {
+    Full(&'a [u8]),
+    Patch(&'a [u8]),
+}
+
+// Decodes frames so many times, and sums up the rows.
+fn decode(decoder: &mut Decoder, frames: &[Frame], times: u32) -> Result<u64, WorkFault> {
     for _ in 0..times {
-        decoder.full(&frame)?;
+        for frame in frames {
+            take(decoder, frame)?;
+        }
     }
     Ok(sum_of_rows(&decoder.rows()?))
+}
+
+fn take(decoder: &mut Decoder, frame: &Frame) -> Result<(), OpFault> {
+    match frame {
+        Frame::Full(state) => decoder.full(state),
+        Frame::Patch(state) => decoder.patch(state),
+    }
+}
+
+fn new_decoder(alloc: Global) -> Result<Decoder, WorkFault> {
+    Ok(Decoder::new(alloc, schema(alloc)?)?)
+}
+
+/// Decodes the full state of so many players, so many times.
+pub fn decode_full(alloc: Global, players: u32, times: u32) -> Result<u64, WorkFault> {
+    let full = full_state(alloc, players)?;
+    let mut decoder = new_decoder(alloc)?;
+    decode(&mut decoder, &[Frame::Full(&full)], times)
 }
 
 /// Decodes a patch of so many changes, and one that changes the same back, so many times.
 pub fn decode_patches(alloc: Global, changes: u32, times: u32) -> Result<u64, WorkFault> {
-    let mut decoder = joined(alloc, PLAYERS)?;
     let there = patch_frame(alloc, changes, THERE)?;
     let back = patch_frame(alloc, changes, BACK)?;
-    for _ in 0..times {
-        decoder.patch(&there)?;
-        decoder.patch(&back)?;
-    }
-    Ok(sum_of_rows(&decoder.rows()?))
+    let mut decoder = joined(alloc, PLAYERS)?;
+    decode(
+        &mut decoder,
+        &[Frame::Patch(&there), Frame::Patch(&back)],
+        times,
+    )
 }
 
 /// Decodes the full state of so many players and a patch of as many deletes, so many times.
 pub fn decode_deletes(alloc: Global, players: u32, times: u32) -> Result<u64, WorkFault> {
-    let mut decoder = Decoder::new(alloc, schema(alloc)?)?;
     let full = full_state(alloc, players)?;
     let patch = deletes(alloc, players)?;
-    for _ in 0..times {
-        decoder.full(&full)?;
-        decoder.patch(&patch)?;
-    }
-    Ok(sum_of_rows(&decoder.rows()?))
+    let mut decoder = new_decoder(alloc)?;
+    decode(
+        &mut decoder,
+        &[Frame::Full(&full), Frame::Patch(&patch)],
+        times,
+    )
 }
 
 // A decoder that has the full state of so many players.
 fn joined(alloc: Global, players: u32) -> Result<Decoder, WorkFault> {
-    let mut decoder = Decoder::new(alloc, schema(alloc)?)?;
-    let frame = full_state(alloc, players)?;
-    decoder.full(&frame)?;
+    let full = full_state(alloc, players)?;
+    let mut decoder = new_decoder(alloc)?;
+    decoder.full(&full)?;
     Ok(decoder)
 }
 
 /// Makes the patch between the rows of so many players and those after every tenth one changed, so many times; where it
 /// is to be applied, it is done to the old rows.
 pub fn compare(alloc: Global, players: u32, times: u32, applied: bool) -> Result<u64, WorkFault> {
-    let schema = schema(alloc)?;
+    let change = patch_frame(alloc, players / 10, THERE)?;
     let mut decoder = joined(alloc, players)?;
+    compare_around(alloc, &mut decoder, &change, times, applied)
+}
+
+// Between the rows before and after a change.
+fn compare_around(
+    alloc: Global,
+    decoder: &mut Decoder,
+    change: &[u8],
+    times: u32,
+    applied: bool,
+) -> Result<u64, WorkFault> {
     let old = decoder.rows()?;
-    decoder.patch(&patch_frame(alloc, players / 10, THERE)?)?;
+    decoder.patch(change)?;
     let new = decoder.rows()?;
+    compare_rows(alloc, &old, &new, times, applied)
+}
+
+fn compare_rows(
+    alloc: Global,
+    old: &Rows,
+    new: &Rows,
+    times: u32,
+    applied: bool,
+) -> Result<u64, WorkFault> {
+    let schema = schema(alloc)?;
     let mut sum: u64 = 0;
     for _ in 0..times {
-        sum = sum.wrapping_add(compare_once(alloc, &schema, &old, &new, applied)?);
+        sum = sum.wrapping_add(compare_once(alloc, &schema, old, new, applied)?);
     }
     Ok(sum)
 }

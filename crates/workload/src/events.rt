@@ -1,5 +1,5 @@
 //! Events of a room that clients watch, one behind another.
-use crate::commands::{players, put, random_put};
+use crate::commands::{self, put, random_put};
 use crate::game::player;
 use lists::Memory;
 use rand_pcg::Pcg32;
@@ -26,16 +26,34 @@ pub struct Crowd {
 /// So many players come, and the clients; then there is the tick at which they are sent their full states.
 pub fn beginning(alloc: Global, count: u32, crowd: Crowd) -> Result<Vec<RoomEvent>, Memory> {
     let mut events = Vec::new(alloc);
-    for command in players(alloc, count)? {
-        events.push(RoomEvent::Act(Act::State(command)))?;
-    }
-    add_numbers(&mut events, count)?;
+    begin(alloc, &mut events, count, crowd)?;
+    Ok(events)
+}
+
+fn begin(
+    alloc: Global,
+    events: &mut Vec<RoomEvent>,
+    count: u32,
+    crowd: Crowd,
+) -> Result<(), Memory> {
+    add_players(alloc, events, count)?;
+    add_numbers(events, count)?;
     for client in 0..crowd.clients {
-        add_client(alloc, &mut events, client)?;
-        add_shown(&mut events, client, count)?;
+        add_client(alloc, events, client)?;
+        add_shown(events, client, count)?;
     }
     events.push(RoomEvent::Tick)?;
-    Ok(events)
+    Ok(())
+}
+
+// So many players come into the map.
+fn add_players(alloc: Global, events: &mut Vec<RoomEvent>, count: u32) -> Result<(), Memory> {
+    let mut commands = Vec::new(alloc);
+    commands::add_players(alloc, &mut commands, count)?;
+    for command in commands {
+        events.push(RoomEvent::Act(Act::State(command)))?;
+    }
+    Ok(())
 }
 
 // Each of so many players gets its numbers.
@@ -89,15 +107,25 @@ pub fn round(
     away: bool,
 ) -> Result<Vec<RoomEvent>, Memory> {
     let mut events = Vec::new(alloc);
+    add_changes(&mut events, random, count)?;
+    add_turns(&mut events, crowd, away)?;
+    events.push(RoomEvent::Tick)?;
+    Ok(events)
+}
+
+fn add_changes(events: &mut Vec<RoomEvent>, random: &mut Pcg32, count: u32) -> Result<(), Memory> {
     for _ in 0..count / QUIET {
         let command = random_put(random, count, NUMBERS);
         events.push(RoomEvent::Act(Act::State(command)))?;
     }
+    Ok(())
+}
+
+fn add_turns(events: &mut Vec<RoomEvent>, crowd: Crowd, away: bool) -> Result<(), Memory> {
     for client in 0..crowd.turning {
         events.push(RoomEvent::Act(turn(client, away)))?;
     }
-    events.push(RoomEvent::Tick)?;
-    Ok(events)
+    Ok(())
 }
 
 // A client looks away from the first player that it is shown, or back.

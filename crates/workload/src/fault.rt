@@ -21,29 +21,30 @@ impl From<Memory> for WorkFault {
     }
 }
 
+impl WorkFault {
+    fn of(is_memory: bool) -> WorkFault {
+        if is_memory {
+            WorkFault::Memory
+        } else {
+            WorkFault::Refused
+        }
+    }
+}
+
 impl From<TableFault> for WorkFault {
     fn from(fault: TableFault) -> Self {
-        match fault {
-            TableFault::Memory => WorkFault::Memory,
-            _ => WorkFault::Refused,
-        }
+        WorkFault::of(matches!(fault, TableFault::Memory))
     }
 }
 
 impl From<OpFault> for WorkFault {
     fn from(fault: OpFault) -> Self {
-        match fault {
-            OpFault::Memory => WorkFault::Memory,
-            _ => WorkFault::Refused,
-        }
+        WorkFault::of(matches!(fault, OpFault::Memory))
     }
 }
 
 impl From<SchemaFault> for WorkFault {
     fn from(fault: SchemaFault) -> Self {
-        match fault {
-            SchemaFault::Memory => WorkFault::Memory,
-            _ => WorkFault::Refused,
-        }
+        WorkFault::of(matches!(fault, SchemaFault::Memory))
     }
 }

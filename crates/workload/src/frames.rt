@@ -64,15 +64,21 @@ fn put_player(alloc: Global, out: &mut Vec<u8>, index: u32) -> Result<(), Memory
 /// The full state of so many players.
 pub fn full_state(alloc: Global, players: u32) -> Result<Vec<u8>, Memory> {
     let mut out = Vec::new(alloc);
-    code(&mut out, ADD + PLAYERS, COLLECTION.0)?;
-    turn(&mut out, COLLECTION)?;
-    for index in 0..players {
-        put_item(alloc, &mut out, index)?;
-    }
+    put_map(alloc, &mut out, players)?;
     for index in 0..players {
         put_player(alloc, &mut out, index)?;
     }
     Ok(out)
+}
+
+// The map of so many players.
+fn put_map(alloc: Global, out: &mut Vec<u8>, players: u32) -> Result<(), Memory> {
+    code(out, ADD + PLAYERS, COLLECTION.0)?;
+    turn(out, COLLECTION)?;
+    for index in 0..players {
+        put_item(alloc, out, index)?;
+    }
+    Ok(())
 }
 
 /// A patch in which so many players, every tenth one, get a first number from this one on.

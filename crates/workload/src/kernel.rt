@@ -35,20 +35,33 @@ pub enum Kernel {
     ViewsMany,
 }
 
+// Each with its name.
+const KERNELS: [(&str, Kernel); 14] = [
+    ("things", Kernel::Commands(Script::Things)),
+    ("players", Kernel::Commands(Script::Players)),
+    ("numbers_back", Kernel::Commands(Script::NumbersBack)),
+    ("numbers_front", Kernel::Commands(Script::NumbersFront)),
+    ("chain_up", Kernel::Commands(Script::ChainUp)),
+    ("held_swept", Kernel::Commands(Script::HeldSwept)),
+    ("decode_full", Kernel::DecodeFull),
+    ("decode_patch", Kernel::DecodePatch),
+    ("decode_deletes", Kernel::DecodeDeletes),
+    ("patch", Kernel::Patch),
+    ("apply_blocks", Kernel::ApplyBlocks),
+    ("read_schema", Kernel::ReadSchema),
+    ("views_few", Kernel::ViewsFew),
+    ("views_many", Kernel::ViewsMany),
+];
+
 impl Kernel {
     /// The kernel of this name.
     pub fn named(name: &str) -> Option<Kernel> {
-        match name {
-            "decode_full" => Some(Kernel::DecodeFull),
-            "decode_patch" => Some(Kernel::DecodePatch),
-            "decode_deletes" => Some(Kernel::DecodeDeletes),
-            "patch" => Some(Kernel::Patch),
-            "apply_blocks" => Some(Kernel::ApplyBlocks),
-            "read_schema" => Some(Kernel::ReadSchema),
-            "views_few" => Some(Kernel::ViewsFew),
-            "views_many" => Some(Kernel::ViewsMany),
-            _ => Some(Kernel::Commands(Script::named(name)?)),
+        for (known, kernel) in KERNELS {
+            if known == name {
+                return Some(kernel);
+            }
         }
+        None
     }
 
     /// Does the kernel's work of a size so many times, and sums up what it gave.

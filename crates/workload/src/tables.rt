@@ -28,7 +28,7 @@ fn done(alloc: Global, schema: &Schema, commands: &[Command]) -> Result<u64, Wor
     let mut table = Table::new(alloc, schema.copy(alloc)?)?;
     let mut sum: u64 = 0;
     for command in commands {
-        sum = sum.wrapping_add(sum_of_answer(table.apply(command)?));
+        sum = sum.wrapping_add(u64::from(number_of(table.apply(command)?)));
     }
     table.sweep();
     let rows = table.rows()?;
@@ -36,11 +36,11 @@ fn done(alloc: Global, schema: &Schema, commands: &[Command]) -> Result<u64, Wor
 }
 
 // The number of a new row; 1 where a command makes none.
-fn sum_of_answer(made: Option<RefNum>) -> u64
+fn number_of(made: Option<RefNum>) -> u32
     ensures { result ≡ option_map_or (λ who. who) made 1 }
 {
     match made {
-        Some(who) => u64::from(who.0),
+        Some(who) => who.0,
         None => 1,
     }
 }

@@ -8,6 +8,7 @@ use crate::game::schema;
 use lists::{Memory, Seq, Text};
 use room_core::{Room, RoomDef, RoomEvent, RoomLike, RoomOut};
 use room_model::Texts;
+use schema_model::Bytes;
 use std::alloc::Global;
 use std::marker::Brand;
 use std::sync::ledger::{Blank, Ledger};
@@ -32,11 +33,22 @@ fn play<L: Ledger>(
 {
     let mut steps = Steps::<L>::new(blank);
     let mut room = new_room(alloc)?;
-    let mut sum = give_all(&mut room, &beginning(alloc, count, crowd)?, &mut steps)?;
+    pass(alloc, &mut room, count, crowd, times, &mut steps)
+}
+
+fn pass<L: Ledger>(
+    alloc: Global,
+    room: &mut Room,
+    count: u32,
+    crowd: Crowd,
+    times: u32,
+    steps: &mut Steps<L>,
+) -> Result<u64, WorkFault> {
+    let mut sum = give_all(room, &beginning(alloc, count, crowd)?, steps)?;
     let mut random = random();
     for time in 0..times {
         let events = round(alloc, &mut random, count, crowd, time % 2 == 0)?;
-        sum = sum.wrapping_add(give_all(&mut room, &events, &mut steps)?);
+        sum = sum.wrapping_add(give_all(room, &events, steps)?);
     }
     Ok(sum)
 }
@@ -49,8 +61,9 @@ fn new_room(alloc: Global) -> Result<Room, WorkFault> {
 
 // A room with as many places as there can be.
 fn definition(alloc: Global) -> Result<RoomDef, Memory> {
+    let name = Text::from_text(alloc, "game")?;
     Ok(RoomDef {
-        name: Text::from_text(alloc, "game")?,
+        name,
         max: 64,
         seat: 15_000,
         patch: 50,
@@ -81,24 +94,27 @@ fn give<L: Ledger>(
         return Err(WorkFault::Refused);
     }
     let outs = room.step(event, steps)?;
-    if matches!(outs.as_slice(), [RoomOut::Refused(_)]) {
-        return Err(WorkFault::Refused);
-    }
-    Ok(sent(outs.as_slice()))
+    sent(outs.as_slice())
 }
 
 // How many bytes the clients are sent.
-fn sent(outs: &[RoomOut]) -> u64 {
+fn sent(outs: &[RoomOut]) -> Result<u64, WorkFault> {
     let mut sum: u64 = 0;
     for out in outs {
-        sum = sum.wrapping_add(length(out) as u64);
+        if let RoomOut::Refused(_) = out {
+            return Err(WorkFault::Refused);
+        }
+        if let Some(frame) = frame_of(out) {
+            sum = sum.wrapping_add(frame.len() as u64);
+        }
     }
-    sum
+    Ok(sum)
 }
 
-fn length(out: &RoomOut) -> usize {
-    match out {
-        RoomOut::Send(_, bytes) => bytes.len(),
-        _ => 0,
+// The frame that a client is sent.
+fn frame_of(out: &RoomOut) -> Option<&Bytes> {
+    if let RoomOut::Send(_, frame) = out {
+        return Some(frame);
     }
+    None
 }

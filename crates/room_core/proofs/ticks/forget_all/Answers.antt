@@ -1,6 +1,5 @@
 use Rattle.std.proofs.Common.{◌≡◌, ◌<◌, true, List, length, get_or, arith, sym, ap, subst, ◌∙◌}
 use Rattle.live_state.specs.Live.{rows_of}
-use Rattle.state_model.specs.Members.{Members}
 use Rattle.view_edits.specs.There.{are_there}
 use Rattle.room_core.specs.declared.client.Client.{Client}
 use Rattle.room_core.specs.Ticks.{AllThere, client_swept}
@@ -8,8 +7,8 @@ use Rattle.room_core.proofs.Mixed.{mixed_next}
 use Rattle.room_core.proofs.Fronts.{mixed_set, all_passed}
 use Rattle.room_core.proofs.ticks.forget_all.Goals as goal
 
-pub forget_freed-requires : goal.forget_freed-requires
-forget_freed-requires c =
+pub forget_in_view-requires : goal.forget_in_view-requires
+forget_in_view-requires c =
     let before = c.requires in
     let client = c.client-item.result in
     let first = c.deref_mut-client-items.result.now in
@@ -26,12 +25,10 @@ loop-client-preserved c =
     let client = c.client-item.result in
     let items = c.loop-client.client-items in
     let at = c.loop-client.client-index in
-    let old = get_or items at client in
-    let after : Client = record { id = old.id; stage = old.stage; members = c.forget_freed.new.members; view = old.view; keep = old.keep } in
     let within : at < length items = omega arith in
+    let after = c.forget_in_view.new.client in
     let within_first : at < length c.deref_mut-client-items.result.now = omega arith in
     record {
-      swept = mixed_set (client_swept rows) items c.deref_mut-client-items.result.now at client after c.loop-client.invariant.swept within_first
-          (ap (λ (m : Members). let x : Client = record { id = old.id; stage = old.stage; members = m; view = old.view; keep = old.keep } in x) c.forget_freed.ensures.members);
-      there = all_passed (λ (x : Client). are_there rows x.members.now ≡ true) items at after within c.loop-client.invariant.there c.forget_freed.ensures.there;
+      swept = mixed_set (client_swept rows) items c.deref_mut-client-items.result.now at client after c.loop-client.invariant.swept within_first c.forget_in_view.ensures.client;
+      there = all_passed (λ (x : Client). are_there rows x.members.now ≡ true) items at after within c.loop-client.invariant.there c.forget_in_view.ensures.there;
     }
