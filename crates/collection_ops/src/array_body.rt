@@ -6,13 +6,15 @@ use lists::Memory;
 use schema_model::Value;
 use state_model::Values;
 use std::alloc::Global;
+use std::collections::VecDeque;
 use std::marker::Model;
 use std::mem;
 
-/// The values of an array. Taking one out moves those behind it.
+/// The values of an array. Putting one in or taking one out at either end moves no others; taking one out between them
+/// moves those on the shorter side.
 #[derive(Drop)]
 pub struct ArrayBody {
-    values: Vec<Value>,
+    values: VecDeque<Value>,
 }
 
 impl Model for ArrayBody {
@@ -32,7 +34,7 @@ impl ArrayBody {
         ensures { result ≡ Ok ([]) }
     {
         Ok(ArrayBody {
-            values: Vec::new(alloc),
+            values: VecDeque::new(alloc),
         })
     }
 
@@ -42,17 +44,18 @@ impl ArrayBody {
         self.values.len() as u32
     }
 
-    pub fn as_slice(&self) -> &[Value]
-        ensures { result.now ≡ self.now }
-    {
-        self.values.as_slice()
-    }
-
     /// The value at a position.
     pub fn get(&self, at: u32) -> Option<&Value>
         ensures { option_copied result ≡ slice_get self.now at }
     {
-        self.values.get(at as usize)
+        self.nth(at as usize)
+    }
+
+    /// The n-th value, counted from 0.
+    pub fn nth(&self, n: usize) -> Option<&Value>
+        ensures { option_copied result ≡ slice_get self.now n }
+    {
+        self.values.get(n)
     }
 
     /// Adds a value at the end. An `Err` changes nothing.
@@ -60,7 +63,7 @@ impl ArrayBody {
         requires { length self.old < 2 ^ 31 }
         ensures { self.new ≡ (if is_ok result then self.old ++ value ∷ [] else self.old) }
     {
-        self.values.push(value)?;
+        self.values.push_back(value)?;
         Ok(())
     }
 
@@ -83,7 +86,7 @@ impl ArrayBody {
         if at >= self.values.len() {
             return Err(ItemFault::NoItem);
         }
-        Ok(self.values.remove(at))
+        Ok(self.values.remove(at).unwrap())
     }
 
     /// Takes all values out.
@@ -98,7 +101,7 @@ impl ArrayBody {
         ensures { IfOk result (λ x. x ≡ self.now) }
     {
         let mut out = Values::new(alloc);
-        for value in self.values.as_slice() {
+        while let Some(value) = self.nth(out.len()) {
             out.push(value.copy(alloc)?)?;
         }
         Ok(out)

@@ -1,5 +1,5 @@
 ghost use Rattle.std.specs.Prelude.{◌≡◌, [], length, map, option_map, slice_get, Some, None, Ok, IfOk, option_copied};
-ghost use Rattle.lists.specs.Rising.{find};
+ghost use Rattle.lists.specs.Rising.{RisesFrom, after_key, find};
 ghost use Rattle.state_model.specs.declared.row.MapItem.{MapItem};
 ghost use Rattle.collection_ops.specs.Bodies.{MapState, map_number, key_item, map_put, map_remove, Gives, Exactly, IsMapKept};
 
@@ -11,8 +11,7 @@ use std::alloc::Global;
 use std::marker::Model;
 use trees::{Numbered, TextIndex};
 
-/// The items of a map, found by number, by place and by key. A call takes logarithmic time;
-/// taking an item out moves the numbers behind it.
+/// The items of a map, found by number and by key. A call takes logarithmic time.
 #[derive(Drop)]
 pub struct MapBody {
     alloc: Global,
@@ -69,11 +68,12 @@ impl MapBody {
         Some(&item.value)
     }
 
-    /// The n-th item, counted from 0.
-    pub fn at(&self, n: usize) -> Option<&MapItem>
-        ensures { option_copied result ≡ slice_get self.now.items n }
+    /// The first item, or the first behind a number.
+    pub fn after(&self, number: Option<u32>) -> Option<&MapItem>
+        ensures value { option_copied result ≡ slice_get (after_key map_number number self.now.items) 0 }
+        ensures rises { RisesFrom map_number 0 self.now.items }
     {
-        self.items.at(n)
+        self.items.after(number)
     }
 
     /// The n-th item number, counted from 0.
@@ -165,7 +165,9 @@ impl MapBody {
         ensures { IfOk result (λ x. x ≡ self.now.items) }
     {
         let mut out = MapItems::new(alloc);
-        while let Some(item) = self.items.at(out.len()) {
+        let mut last = None;
+        while let Some(item) = self.items.after(last) {
+            last = Some(item.number);
             out.push(item.copy(alloc)?)?;
         }
         Ok(out)

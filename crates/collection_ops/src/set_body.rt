@@ -1,5 +1,5 @@
 ghost use Rattle.std.specs.Prelude.{◌≡◌, [], length, map, option_map, slice_get, IfOk, Ok, option_copied};
-ghost use Rattle.lists.specs.Rising.{find};
+ghost use Rattle.lists.specs.Rising.{RisesFrom, after_key, find};
 ghost use Rattle.state_model.specs.declared.row.SetItem.{SetItem};
 ghost use Rattle.collection_ops.specs.Bodies.{SetState, set_number, value_item, set_add, set_remove, Gives, Exactly, IsSetKept};
 
@@ -12,8 +12,7 @@ use std::alloc::Global;
 use std::marker::Model;
 use trees::Numbered;
 
-/// The items of a set, found by number, by place and by value. A call takes logarithmic time;
-/// taking an item out moves the numbers behind it.
+/// The items of a set, found by number and by value. A call takes logarithmic time.
 #[derive(Drop)]
 pub struct SetBody {
     alloc: Global,
@@ -70,11 +69,12 @@ impl SetBody {
         Some(&item.value)
     }
 
-    /// The n-th item, counted from 0.
-    pub fn at(&self, n: usize) -> Option<&SetItem>
-        ensures { option_copied result ≡ slice_get self.now.items n }
+    /// The first item, or the first behind a number.
+    pub fn after(&self, number: Option<u32>) -> Option<&SetItem>
+        ensures value { option_copied result ≡ slice_get (after_key set_number number self.now.items) 0 }
+        ensures rises { RisesFrom set_number 0 self.now.items }
     {
-        self.items.at(n)
+        self.items.after(number)
     }
 
     /// The n-th item number, counted from 0.
@@ -141,7 +141,9 @@ impl SetBody {
         ensures { IfOk result (λ x. x ≡ self.now.items) }
     {
         let mut out = SetItems::new(alloc);
-        while let Some(item) = self.items.at(out.len()) {
+        let mut last = None;
+        while let Some(item) = self.items.after(last) {
+            last = Some(item.number);
             out.push(item.copy(alloc)?)?;
         }
         Ok(out)

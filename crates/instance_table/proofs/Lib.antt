@@ -11,6 +11,7 @@ pub mod ExactLaws
 pub mod LetGoLaws
 pub mod ChangeLaws
 pub mod NodeStates
+mod PlaceSteps
 pub mod ChangedStates
 pub mod ChangedHolders
 pub mod ChangedTables
@@ -24,3 +25,4 @@ pub mod TableSteps
 pub mod AmountLaws
 pub mod RefusalLaws
 pub mod BehindLaws
+mod WayLaws

@@ -1,5 +1,5 @@
 -- The row that a body is, and the item numbers that it has given.
-use Rattle.std.specs.Prelude.{◌≡◌, ℕ, ◌+◌, ◌<◌, ◌≤◌, ◌^◌, Bool, true, false, Option, Some, None, IfSome, length, slice_get}
+use Rattle.std.specs.Prelude.{◌≡◌, ℕ, ◌+◌, ◌<◌, ◌≤◌, ◌^◌, Bool, true, false, Option, Some, None, IfSome, drop, length, slice_get}
 use Rattle.std.specs.Option.{option_map, option_map_or}
 use Rattle.lists.specs.Rising as rising
 use Rattle.schema_model.specs.declared.value.Value.{Value}
@@ -59,6 +59,13 @@ value_in (row.Map home items) (key.Item n) = option_map (λ (i : MapItem). i.val
 value_in (row.Array home values) (key.At at) = slice_get values at
 value_in (row.Set home items) (key.Item n) = option_map (λ (i : SetItem). i.value) (rising.find (λ (i : SetItem). i.number) n items)
 value_in r k = None
+
+-- what stands behind a number is what stands from the n-th item of a collection on
+abbrev pub IsBehind : Row → ℕ → Option ℕ → Type 0
+IsBehind (row.Struct class fields) n behind = Unit {0}
+IsBehind (row.Map home items) n behind = rising.after_key (λ (i : MapItem). i.number) behind items ≡ drop n items
+IsBehind (row.Array home values) n behind = Unit {0}
+IsBehind (row.Set home items) n behind = rising.after_key (λ (i : SetItem). i.number) behind items ≡ drop n items
 
 -- an item number is left
 abbrev pub HasNumber : Option ℕ → Type 0

@@ -1,5 +1,5 @@
 -- What commands and sweeps make of the nodes.
-use Rattle.std.specs.Prelude.{◌≡◌, ◌⊎◌, ℕ, List, [], ◌∷◌, Option, Some, None, if◌then◌else◌}
+use Rattle.std.specs.Prelude.{◌≡◌, ◌⊎◌, ℕ, List, [], ◌∷◌, Option, Some, None, IfSome, if◌then◌else◌}
 use Rattle.std.specs.Option.{option_map_or}
 use Rattle.schema_model.specs.declared.value.Value.{Value}
 use Rattle.schema_model.specs.declared.value.Value.TheVariants as value
@@ -10,12 +10,16 @@ use Rattle.state_model.specs.Rows.{held_in, values_in}
 use Rattle.command_laws.specs.Accounts.{is_clear, replaced}
 use Rattle.instance_table.specs.declared.node.Node.{Node}
 use Rattle.instance_table.specs.declared.body.Body.{Body}
-use Rattle.instance_table.specs.Bodies.{row_of, edited_body}
+use Rattle.instance_table.specs.Bodies.{row_of, edited_body, IsBehind}
 use Rattle.instance_table.specs.Nodes.{at_node, node_at, held_more, held_less, held_not}
 
 -- the values in the row of a number
 abbrev pub values_at : List (ℕ × Node) → ℕ → List Value
 values_at es who = option_map_or (λ (n : Node). values_in (row_of n.body)) (node_at es who) []
+
+-- what stands behind a number is what stands from the n-th place of a row on
+abbrev pub IsBehindAt : List (ℕ × Node) → ℕ → ℕ → Option ℕ → Type 0
+IsBehindAt es who n behind = IfSome (node_at es who) (λ (m : Node). IsBehind (row_of m.body) n behind)
 
 -- the node whose body a command changed
 abbrev pub edited_node : Command → Node → Node

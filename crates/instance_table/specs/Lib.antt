@@ -7,3 +7,4 @@ pub mod Holders
 pub mod Lists
 pub mod Nodes
 pub mod Table
+pub mod Ways

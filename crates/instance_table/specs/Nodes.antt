@@ -3,6 +3,7 @@ use Rattle.std.specs.Prelude.{ℕ, Bool, true, false, not, ◌&&◌, List, [], �
 use Rattle.std.specs.Option.{option_map, option_map_or}
 use Rattle.std.specs.List.{flat_map}
 use Rattle.lists.specs.Rising as rising
+use Rattle.trees.specs.declared.slot.Slot.{Slot}
 use Rattle.state_model.specs.declared.row.RowEntry.{RowEntry}
 use Rattle.state_model.specs.State.{ItemCount}
 use Rattle.instance_table.specs.declared.node.Node.{Node}
@@ -59,3 +60,9 @@ held_not h n = woken (filter (λ m. not (m == h)) n.holders) n
 -- it doesn't wait any more
 abbrev pub rested : Node → Node
 rested n = record { body = n.body; holders = n.holders; waits = false }
+
+-- ---- nodes in slots
+
+-- a slot whose node changed, where it has one
+abbrev pub at_slot : (Node → Node) → Slot Node → Slot Node
+at_slot f s = record { number = s.number; item = option_map f s.item }

@@ -30,12 +30,11 @@ fn keys_size(items: &MapBody) -> usize
     requires { sum_by (λ i. length i.key) items.now.items ≤ text_limit }
     ensures { result ≡ sum_by (λ i. length i.key) items.now.items }
 {
-    let count = items.len() as usize;
     let mut size = 0;
-    for n in 0..count {
-        if let Some(item) = items.at(n) {
-            size += item.key.len();
-        }
+    let mut behind = None;
+    while let Some(item) = items.after(behind) {
+        size += item.key.len();
+        behind = Some(item.number);
     }
     size
 }
@@ -47,8 +46,11 @@ fn values_size(body: &Body) -> usize
 {
     let count = body.len();
     let mut size = 0;
+    let mut behind = None;
     for n in 0..count {
-        size += text_size(body.value_nth(n));
+        let (value, next) = body.value_nth(n, behind);
+        size += text_size(value);
+        behind = next;
     }
     size
 }

@@ -85,9 +85,12 @@ fn add_all_links<L: Ledger>(
     ensures cost { OnOk result (steps.new ≡ steps.old + length (values_in (row_of body.now))) }
 {
     let count = body.len();
+    let mut behind = None;
     for n in 0..count {
         steps.tick();
-        add_link(link_of(body.value_nth(n)), links)?;
+        let (value, next) = body.value_nth(n, behind);
+        add_link(link_of(value), links)?;
+        behind = next;
     }
     Ok(())
 }

@@ -1,9 +1,9 @@
 //! The places of a row.
-ghost use Rattle.std.specs.Prelude.{◌≡◌, IfOk, length, option_copied, slice_get};
+ghost use Rattle.std.specs.Prelude.{◌≡◌, ◌+◌, IfOk, length, map, option_copied, slice_get};
 ghost use Rattle.std.specs.Option.{option_map};
 ghost use Rattle.lists.specs.Rising.{find};
 ghost use Rattle.state_model.specs.Rows.{values_in};
-ghost use Rattle.instance_table.specs.Bodies.{row_of, value_in};
+ghost use Rattle.instance_table.specs.Bodies.{IsBehind, row_of, value_in};
 
 use collection_ops::{ArrayBody, MapBody, SetBody};
 use schema_model::{Home, Key, Memory, TypeNum, Value};
@@ -25,6 +25,14 @@ pub fn field_value(fields: &FieldValues, field: u8) -> Option<&Value>
     ensures { option_copied result ≡ option_map (λ x. x.value) (find (λ x. x.field) field fields.now) }
 {
     let field = fields.get(u32::from(field))?;
+    Some(&field.value)
+}
+
+// The value of the n-th field.
+fn nth_field(fields: &FieldValues, n: usize) -> Option<&Value>
+    ensures { option_copied result ≡ slice_get (map (λ x. x.value) fields.now) n }
+{
+    let field = fields.as_slice().get(n)?;
     Some(&field.value)
 }
 
@@ -54,24 +62,24 @@ impl Body {
         }
     }
 
-    /// The value in the n-th place.
-    pub fn value_nth(&self, n: usize) -> Option<&Value>
-        ensures { option_copied result ≡ slice_get (values_in (row_of self.now)) n }
+    /// The value in the n-th place, where `behind` is what this call gave for the place before it, and `None` for the
+    /// first; and what to give it for the next place.
+    pub fn value_nth(&self, n: usize, behind: Option<u32>) -> (Option<&Value>, Option<u32>)
+        requires { IsBehind (row_of self.now) n behind }
+        ensures value { option_copied result.0 ≡ slice_get (values_in (row_of self.now)) n }
+        ensures next { IsBehind (row_of self.now) (n + 1) result.1 }
     {
         match self {
-            Body::Struct(_, fields) => {
-                let field = fields.as_slice().get(n)?;
-                Some(&field.value)
-            }
-            Body::Map(_, items) => {
-                let item = items.at(n)?;
-                Some(&item.value)
-            }
-            Body::Array(_, values) => values.as_slice().get(n),
-            Body::Set(_, items) => {
-                let item = items.at(n)?;
-                Some(&item.value)
-            }
+            Body::Struct(_, fields) => (nth_field(fields, n), None),
+            Body::Map(_, items) => match items.after(behind) {
+                Some(item) => (Some(&item.value), Some(item.number)),
+                None => (None, behind),
+            },
+            Body::Array(_, values) => (values.nth(n), None),
+            Body::Set(_, items) => match items.after(behind) {
+                Some(item) => (Some(&item.value), Some(item.number)),
+                None => (None, behind),
+            },
         }
     }
 

@@ -1,12 +1,12 @@
 //! Commands that change a row, and rows that let go of what they hold.
-ghost use Rattle.std.specs.Prelude.{◌≡◌, [], IfSome, None, OnErr, OnOk, Some, is_none, is_ok, length, option_copied, slice_get, true};
+ghost use Rattle.std.specs.Prelude.{◌≡◌, ◌+◌, [], IfSome, None, OnErr, OnOk, Some, is_none, is_ok, length, option_copied, slice_get, true};
 ghost use Rattle.std.specs.Option.{option_map_or, option_to_list};
 ghost use Rattle.state_model.specs.Commands.{value_put};
 ghost use Rattle.state_model.specs.Rows.{values_in};
 ghost use Rattle.command_laws.specs.Accounts.{held_in_value, is_clear, replaced};
 ghost use Rattle.plain_rows.specs.Links.{held_at};
 ghost use Rattle.instance_table.specs.Bodies.{CanEdit, row_of, takes_out};
-ghost use Rattle.instance_table.specs.Changes.{IsUndone, changed, hold_link, let_go_each, let_go_link, link_in, place_changed, values_at};
+ghost use Rattle.instance_table.specs.Changes.{IsBehindAt, IsUndone, changed, hold_link, let_go_each, let_go_link, link_in, place_changed, values_at};
 ghost use Rattle.instance_table.specs.Nodes.{node_at, rows_in};
 
 use crate::graph::Graph;
@@ -26,12 +26,25 @@ fn places_at(graph: &Graph, who: RefNum) -> usize
     }
 }
 
-// The link in the n-th place of the row of a number.
-fn link_nth(graph: &Graph, who: RefNum, n: usize) -> Option<RefNum>
-    ensures { result ≡ link_in (slice_get (values_at graph.now.nodes who) n) }
+// The link in the n-th place of the row of a number, where `behind` is what this gave for the place before it; and what to
+// give it for the next.
+fn link_nth(
+    graph: &Graph,
+    who: RefNum,
+    n: usize,
+    behind: Option<u32>,
+) -> (Option<RefNum>, Option<u32>)
+    requires { IsBehindAt graph.now.nodes who n behind }
+    ensures link { result.0 ≡ link_in (slice_get (values_at graph.now.nodes who) n) }
+    ensures next { IsBehindAt graph.now.nodes who (n + 1) result.1 }
 {
-    let node = graph.get(who)?;
-    link_of(node.body.value_nth(n))
+    match graph.get(who) {
+        Some(node) => {
+            let (value, next) = node.body.value_nth(n, behind);
+            (link_of(value), next)
+        }
+        None => (None, None),
+    }
 }
 
 /// The row of a number holds nothing any more. What nothing holds then waits for the next sweep.
@@ -39,10 +52,13 @@ pub fn let_go_links(graph: &mut Graph, holder: RefNum)
     ensures { graph.new.nodes ≡ let_go_each (held_at (rows_in graph.old.nodes) holder) holder graph.old.nodes }
 {
     let count = places_at(graph, holder);
+    let mut behind = None;
     for n in 0..count {
-        if let Some(link) = link_nth(graph, holder, n) {
+        let (link, next) = link_nth(graph, holder, n, behind);
+        if let Some(link) = link {
             graph.let_go_all(link, holder);
         }
+        behind = next;
     }
 }
 

@@ -50,6 +50,13 @@ impl Holders {
         self.numbers.get(n).copied()
     }
 
+    /// The holders of all places.
+    pub fn as_slice(&self) -> &[RefNum]
+        ensures { result.now ≡ self.now }
+    {
+        self.numbers.as_slice()
+    }
+
     /// Whether a row is one of the holders.
     pub fn has(&self, holder: RefNum) -> bool
         ensures { result ≡ is_among holder self.now }

@@ -1,6 +1,7 @@
 //! How holders of a row come and go.
-ghost use Rattle.std.specs.Prelude.{◌≡◌, ◌==◌, filter, not, is_ok, true, if◌then◌else◌};
-ghost use Rattle.instance_table.specs.Nodes.{held_less, held_more, held_not, rested, wakes, woken};
+ghost use Rattle.std.specs.Prelude.{◌≡◌, ◌==◌, filter, not, is_ok, true, false, IfSome, if◌then◌else◌};
+ghost use Rattle.std.specs.Option.{option_map_or};
+ghost use Rattle.instance_table.specs.Nodes.{at_slot, held_less, held_more, held_not, rested, wakes, woken};
 ghost use Rattle.instance_table.specs.Bodies.{CanEdit, takes_out};
 ghost use Rattle.instance_table.specs.Changes.{edited_node};
 ghost use Rattle.instance_table.specs.Holders.{without_one};
@@ -10,21 +11,28 @@ use crate::node::Node;
 use schema_model::{Memory, RefNum};
 use state_model::Command;
 use std::alloc::Global;
+use trees::Slot;
 
-/// A command changes the places of the row. What only takes places out takes no memory.
-pub fn edit(node: &mut Node, alloc: Global, command: &Command) -> Result<(), Memory>
-    requires { CanEdit command.now node.old.body }
-    ensures after { node.new ≡ (if is_ok result then edited_node command.now node.old else node.old) }
+/// A command changes the places of the row in a slot, where there is one. What only takes places out takes no memory.
+pub fn edit(slot: &mut Slot<Node>, alloc: Global, command: &Command) -> Result<(), Memory>
+    requires { IfSome slot.old.item (λ n. CanEdit command.now n.body) }
+    ensures after { slot.new ≡ (if is_ok result then at_slot (edited_node command.now) slot.old else slot.old) }
     ensures sure { takes_out command.now ≡ true → is_ok result ≡ true }
 {
-    edits::edit(&mut node.body, alloc, command)
+    match &mut slot.item {
+        Some(node) => edits::edit(&mut node.body, alloc, command),
+        None => Ok(()),
+    }
 }
 
-/// A place more holds the row.
-pub fn hold(node: &mut Node, holder: RefNum) -> Result<(), Memory>
-    ensures { node.new ≡ (if is_ok result then held_more holder node.old else node.old) }
+/// A place more holds the row in a slot.
+pub fn hold(slot: &mut Slot<Node>, holder: RefNum) -> Result<(), Memory>
+    ensures { slot.new ≡ (if is_ok result then at_slot (held_more holder) slot.old else slot.old) }
 {
-    node.holders.add(holder)
+    match &mut slot.item {
+        Some(node) => node.holders.add(holder),
+        None => Ok(()),
+    }
 }
 
 // Where nothing holds the row it waits for the next sweep. Answers whether it didn't before.
@@ -39,27 +47,39 @@ fn wake(node: &mut Node) -> bool
     true
 }
 
-/// A place less of a holder holds the row. Answers whether the row waits only from now on.
-pub fn let_go(node: &mut Node, holder: RefNum) -> bool
-    ensures value { result ≡ wakes (without_one holder node.old.holders) node.old.waits }
-    ensures after { node.new ≡ held_less holder node.old }
+/// A place less of a holder holds the row in a slot. Answers whether the row waits only from now on.
+pub fn let_go(slot: &mut Slot<Node>, holder: RefNum) -> bool
+    ensures value { result ≡ option_map_or (λ n. wakes (without_one holder n.holders) n.waits) slot.old.item false }
+    ensures after { slot.new ≡ at_slot (held_less holder) slot.old }
 {
-    node.holders.take_one(holder);
-    wake(node)
+    match &mut slot.item {
+        Some(node) => {
+            node.holders.take_one(holder);
+            wake(node)
+        }
+        None => false,
+    }
 }
 
-/// No place of a holder holds the row any more. Answers whether the row waits only from now on.
-pub fn let_go_all(node: &mut Node, holder: RefNum) -> bool
-    ensures value { result ≡ wakes (filter (λ m. not (m == holder)) node.old.holders) node.old.waits }
-    ensures after { node.new ≡ held_not holder node.old }
+/// No place of a holder holds the row in a slot any more. Answers whether the row waits only from now on.
+pub fn let_go_all(slot: &mut Slot<Node>, holder: RefNum) -> bool
+    ensures value { result ≡ option_map_or (λ n. wakes (filter (λ m. not (m == holder)) n.holders) n.waits) slot.old.item false }
+    ensures after { slot.new ≡ at_slot (held_not holder) slot.old }
 {
-    node.holders.take_all(holder);
-    wake(node)
+    match &mut slot.item {
+        Some(node) => {
+            node.holders.take_all(holder);
+            wake(node)
+        }
+        None => false,
+    }
 }
 
-/// The row doesn't wait any more.
-pub fn rest(node: &mut Node)
-    ensures { node.new ≡ rested node.old }
+/// The row in a slot doesn't wait any more.
+pub fn rest(slot: &mut Slot<Node>)
+    ensures { slot.new ≡ at_slot rested slot.old }
 {
-    node.waits = false;
+    if let Some(node) = &mut slot.item {
+        node.waits = false;
+    }
 }

@@ -22,5 +22,6 @@ mod table;
 mod totals;
 mod typed;
 mod walk;
+mod way;
 
 pub use table::Table;

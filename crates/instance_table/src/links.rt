@@ -25,10 +25,13 @@ pub fn add_links(body: &Body, links: &mut Vec<RefNum>) -> Result<(), Memory>
     ensures { OnOk result (links.new.items ≡ links.old.items ++ held_in (row_of body.now)) }
 {
     let count = body.len();
+    let mut behind = None;
     for n in 0..count {
-        if let Some(who) = link_of(body.value_nth(n)) {
+        let (value, next) = body.value_nth(n, behind);
+        if let Some(who) = link_of(value) {
             links.push(who)?;
         }
+        behind = next;
     }
     Ok(())
 }

@@ -2,6 +2,7 @@
 ghost use Rattle.std.specs.Prelude.{◌≡◌, ◌==◌, [], ◌∷◌, ◌++◌, false, filter, length, not, is_ok, true, IfOk, IfSome, if◌then◌else◌, option_copied};
 ghost use Rattle.std.specs.Option.{option_map_or};
 ghost use Rattle.lists.specs.Rising.{IsAbove, RisesFrom, remove};
+ghost use Rattle.trees.specs.Slots.{entries_in, slot_number};
 ghost use Rattle.instance_table.specs.Bodies.{CanEdit, takes_out};
 ghost use Rattle.instance_table.specs.Changes.{edited_node};
 ghost use Rattle.instance_table.specs.Holders.{without_one};
@@ -9,29 +10,34 @@ ghost use Rattle.instance_table.specs.Nodes.{at_node, held_less, held_more, held
 
 use crate::holding;
 use crate::node::Node;
+use lists::search;
 use schema_model::{Memory, RefNum};
 use state_model::{Command, RowEntry, Rows};
 use std::alloc::Global;
-use std::collections::BTreeMap;
 use std::marker::Model;
+use std::mem;
+use trees::{Slot, close_holes, drop_last_holes};
 
-/// The rows by their numbers. One is found in logarithmic time.
+/// The rows by their numbers. One is found at once where no number was left out in front of it, else in logarithmic time.
+/// One that is taken out leaves a hole; holes are closed when they are more than the rows.
 #[derive(Drop)]
 pub struct Nodes {
-    entries: BTreeMap<u32, Node>,
+    slots: Vec<Slot<Node>>,
+    // How many of them are no holes.
+    len: usize,
 }
 
 impl Model for Nodes {
-    ghost use Rattle.std.specs.Prelude.{ℕ, List};
+    ghost use Rattle.std.specs.Prelude.{◌≡◌, ℕ, List, length};
     ghost use Rattle.lists.specs.Rising.{RisesFrom};
+    ghost use Rattle.trees.specs.Slots.{entries_in, slot_number};
     ghost use Rattle.instance_table.specs.declared.node.Node.{Node as NodeValue};
-    ghost use Rattle.instance_table.specs.Nodes.{number_of};
 
     ghost Value = { List (ℕ × NodeValue) };
 
-    ghost view = { λ n. n.entries.entries };
+    ghost view = { λ n. entries_in n.slots.items };
 
-    ghost invariant = { λ n. RisesFrom number_of 0 n.entries.entries };
+    ghost invariant = { λ n. RisesFrom slot_number 0 n.slots.items × (n.len ≡ length (entries_in n.slots.items)) };
 }
 
 impl Nodes {
@@ -40,7 +46,8 @@ impl Nodes {
         ensures { result ≡ [] }
     {
         Nodes {
-            entries: BTreeMap::new(alloc),
+            slots: Vec::new(alloc),
+            len: 0,
         }
     }
 
@@ -48,7 +55,10 @@ impl Nodes {
     pub fn get(&self, who: RefNum) -> Option<&Node>
         ensures { option_copied result ≡ node_at self.now who }
     {
-        self.entries.get(&who.0)
+        match search(self.slots.as_slice(), who.0) {
+            Ok(at) => self.slots[at].item.as_ref(),
+            Err(_) => None,
+        }
     }
 
     /// How many rows there are.
@@ -56,7 +66,7 @@ impl Nodes {
         ensures value { result ≡ length self.now }
         ensures rises { RisesFrom number_of 0 self.now }
     {
-        self.entries.len()
+        self.len
     }
 
     /// Adds a row with a number above all others.
@@ -64,7 +74,12 @@ impl Nodes {
         requires { IsAbove number_of who self.old }
         ensures { self.new ≡ (if is_ok result then self.old ++ (who, node) ∷ [] else self.old) }
     {
-        self.entries.insert(who.0, node)?;
+        drop_last_holes(&mut self.slots);
+        self.slots.push(Slot {
+            number: who.0,
+            item: Some(node),
+        })?;
+        self.len += 1;
         Ok(())
     }
 
@@ -74,7 +89,12 @@ impl Nodes {
         ensures rest { self.new ≡ remove number_of who self.old }
         ensures rises { RisesFrom number_of 0 self.old }
     {
-        self.entries.remove(&who.0)
+        let node = take_out(&mut self.slots, who.0)?;
+        self.len -= 1;
+        if self.slots.len() / 2 > self.len {
+            close_holes(&mut self.slots);
+        }
+        Some(node)
     }
 
     /// A command changes the places of a row. What only takes places out takes no memory.
@@ -84,24 +104,17 @@ impl Nodes {
         ensures sure { takes_out command.now ≡ true → is_ok result ≡ true }
         ensures rises { RisesFrom number_of 0 self.old }
     {
-        match self.entries.get_mut(&who.0) {
-            Some(node) => holding::edit(node, alloc, command),
-            None => Ok(()),
-        }
+        let Ok(at) = search(self.slots.as_slice(), who.0) else {
+            return Ok(());
+        };
+        holding::edit(&mut self.slots[at], alloc, command)
     }
 
     /// All rows, each with its number.
     pub fn copy_rows(&self, alloc: Global) -> Result<Rows, Memory>
         ensures { IfOk result (λ r. r ≡ rows_in self.now) }
     {
-        let mut rows = Rows::new(alloc);
-        for (who, node) in self.entries.iter() {
-            rows.push(RowEntry {
-                who: RefNum(*who),
-                row: node.body.copy_row(alloc)?,
-            })?;
-        }
-        Ok(rows)
+        copy_rows(self.slots.as_slice(), alloc)
     }
 
     /// A place more holds a row.
@@ -109,10 +122,10 @@ impl Nodes {
         ensures after { self.new ≡ (if is_ok result then at_node who (held_more holder) self.old else self.old) }
         ensures rises { RisesFrom number_of 0 self.old }
     {
-        match self.entries.get_mut(&who.0) {
-            Some(node) => holding::hold(node, holder),
-            None => Ok(()),
-        }
+        let Ok(at) = search(self.slots.as_slice(), who.0) else {
+            return Ok(());
+        };
+        holding::hold(&mut self.slots[at], holder)
     }
 
     /// A place less of a holder holds a row. Answers whether the row waits only from now on.
@@ -121,10 +134,10 @@ impl Nodes {
         ensures after { self.new ≡ at_node who (held_less holder) self.old }
         ensures rises { RisesFrom number_of 0 self.old }
     {
-        match self.entries.get_mut(&who.0) {
-            Some(node) => holding::let_go(node, holder),
-            None => false,
-        }
+        let Ok(at) = search(self.slots.as_slice(), who.0) else {
+            return false;
+        };
+        holding::let_go(&mut self.slots[at], holder)
     }
 
     /// No place of a holder holds a row any more. Answers whether the row waits only from now on.
@@ -133,10 +146,10 @@ impl Nodes {
         ensures after { self.new ≡ at_node who (held_not holder) self.old }
         ensures rises { RisesFrom number_of 0 self.old }
     {
-        match self.entries.get_mut(&who.0) {
-            Some(node) => holding::let_go_all(node, holder),
-            None => false,
-        }
+        let Ok(at) = search(self.slots.as_slice(), who.0) else {
+            return false;
+        };
+        holding::let_go_all(&mut self.slots[at], holder)
     }
 
     /// A row doesn't wait any more.
@@ -144,8 +157,40 @@ impl Nodes {
         ensures after { self.new ≡ at_node who rested self.old }
         ensures rises { RisesFrom number_of 0 self.old }
     {
-        if let Some(node) = self.entries.get_mut(&who.0) {
-            holding::rest(node);
+        let Ok(at) = search(self.slots.as_slice(), who.0) else {
+            return;
+        };
+        holding::rest(&mut self.slots[at]);
+    }
+}
+
+// The rows in slots, each with its number.
+fn copy_rows(slots: &[Slot<Node>], alloc: Global) -> Result<Rows, Memory>
+    requires { RisesFrom slot_number 0 slots.now }
+    ensures { IfOk result (λ r. r ≡ rows_in (entries_in slots.now)) }
+{
+    let mut rows = Rows::new(alloc);
+    for slot in slots {
+        if let Some(node) = &slot.item {
+            rows.push(RowEntry {
+                who: RefNum(slot.number),
+                row: node.body.copy_row(alloc)?,
+            })?;
         }
     }
+    Ok(rows)
+}
+
+// Takes the row of a number out. A hole is left.
+fn take_out(slots: &mut Vec<Slot<Node>>, number: u32) -> Option<Node>
+    requires { RisesFrom slot_number 0 slots.old.items }
+    ensures found { result ≡ node_at (entries_in slots.old.items) number }
+    ensures rest { entries_in slots.new.items ≡ remove number_of number (entries_in slots.old.items) }
+    ensures rises { RisesFrom slot_number 0 slots.new.items }
+    ensures before { RisesFrom number_of 0 (entries_in slots.old.items) }
+{
+    let Ok(at) = search(slots.as_slice(), number) else {
+        return None;
+    };
+    mem::replace(&mut slots[at], Slot { number, item: None }).item
 }

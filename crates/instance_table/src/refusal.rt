@@ -1,6 +1,7 @@
 //! Why a command is refused: the first cause in their order.
 ghost use Rattle.std.specs.Prelude.{◌≡◌, ◌&&◌, not, IfOk, Some, false, is_ok, nat_lt, option_and_then, option_copied, true};
 ghost use Rattle.std.specs.Option.{option_map, option_map_or};
+ghost use Rattle.schema_model.specs.Classes.{Schema as Classes};
 ghost use Rattle.state_model.specs.Reached.{is_among};
 ghost use Rattle.state_model.specs.Rows.{is_live, row_at};
 ghost use Rattle.state_model.specs.Sound.{are_sound};
@@ -94,6 +95,8 @@ fn value_cause(schema: &Schema, nodes: &Nodes, command: &Command, body: &Body) -
 
 // Whether the instance that a command links to reaches the row that it changes.
 fn is_cycle(alloc: Global, nodes: &Nodes, command: &Command) -> Result<bool, Memory>
+    requires sound { (schema : Classes) × (are_sound schema (rows_in nodes.now) ≡ true) }
+    requires exact { IsExact nodes.now }
     ensures value { IfOk result (λ found. found ≡ is_cycle (rows_in nodes.now) (holder_of command.now) (value_put command.now)) }
     ensures sure { takes_out command.now ≡ true → is_ok result ≡ true }
 {

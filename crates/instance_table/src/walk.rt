@@ -1,43 +1,83 @@
 //! Whether a row reaches another.
-ghost use Rattle.std.specs.Prelude.{◌≡◌, ◌++◌, IfOk, OnOk};
+ghost use Rattle.std.specs.Prelude.{◌≡◌, ◌++◌, ℕ, true, false, IfOk, OnOk};
 ghost use Rattle.state_model.specs.Reached.{is_among, reached};
+ghost use Rattle.state_model.specs.Sound.{are_sound};
+ghost use Rattle.schema_model.specs.Classes.{Schema};
 ghost use Rattle.plain_rows.specs.Links.{held_at};
-ghost use Rattle.instance_table.specs.Nodes.{number_of, rows_in};
-ghost use Rattle.lists.specs.Rising.{RisesFrom};
+ghost use Rattle.plain_rows.proofs.Walks.{Walked};
+ghost use Rattle.instance_table.specs.Nodes.{rows_in};
+ghost use Rattle.instance_table.specs.Table.{IsExact};
+ghost use Rattle.instance_table.specs.Ways.{IsTurned, left_of, rows_along};
 
 use crate::links::add_links;
 use crate::nodes::Nodes;
+use crate::way::Way;
 use plain_rows::NumberSet;
 use schema_model::{Memory, RefNum};
 use std::alloc::Global;
 
-// Adds the numbers that the row of a number holds, where there is one.
-fn add_links_of(nodes: &Nodes, who: RefNum, links: &mut Vec<RefNum>) -> Result<(), Memory>
-    ensures { OnOk result (links.new.items ≡ links.old.items ++ held_at (rows_in nodes.now) who) }
+// Adds the numbers to which a way leads on from the row of a number, where there is one.
+fn add_next(nodes: &Nodes, way: Way, who: RefNum, waiting: &mut Vec<RefNum>) -> Result<(), Memory>
+    ensures { OnOk result (waiting.new.items ≡ waiting.old.items ++ held_at (rows_along way nodes.now) who) }
 {
-    match nodes.get(who) {
-        Some(node) => add_links(&node.body, links),
-        None => Ok(()),
+    let Some(node) = nodes.get(who) else {
+        return Ok(());
+    };
+    match way {
+        Way::Links => add_links(&node.body, waiting),
+        Way::Holders => {
+            waiting.extend_from_slice(node.holders.as_slice())?;
+            Ok(())
+        }
     }
 }
 
-/// Whether one row reaches another by way of links. It looks once at each place of the rows that it comes to, and at no
-/// others.
-pub fn reaches(alloc: Global, nodes: &Nodes, from: RefNum, to: RefNum) -> Result<bool, Memory>
-    ensures { IfOk result (λ found. found ≡ is_among to (reached (rows_in nodes.now) from)) }
+// A turn of a walk, which looks at one number that waits: whether it got to the end, or that nothing waits any more;
+// nothing where it goes on.
+fn turn(
+    nodes: &Nodes,
+    way: Way,
+    end: RefNum,
+    seen: &mut NumberSet,
+    waiting: &mut Vec<RefNum>,
+) -> Result<Option<bool>, Memory>
+    ensures { (start : ℕ) → Walked (rows_along way nodes.now) start seen.old waiting.old.items → is_among end seen.old ≡ false
+        → IfOk result (λ t. IsTurned (rows_along way nodes.now) start end (left_of (rows_along way nodes.now) seen.old waiting.old.items) seen.new waiting.new.items t) }
 {
     // From this call the proof knows that the rows rise.
     let _ = nodes.len();
-    let mut seen = NumberSet::new(alloc);
-    let mut waiting = Vec::new(alloc);
-    waiting.push(from)?;
-    while let Some(who) = waiting.pop() {
-        if who == to {
-            return Ok(true);
+    let Some(who) = waiting.pop() else {
+        return Ok(Some(false));
+    };
+    if who == end {
+        return Ok(Some(true));
+    }
+    if seen.insert(who)? {
+        add_next(nodes, way, who, waiting)?;
+    }
+    Ok(None)
+}
+
+/// Whether one row reaches another by way of links. It walks from both ends, a row of each in turn, along the links from
+/// the one and along the holders from the other, until it gets to the other end or one side is spent. It looks once at
+/// each place and each holder of the rows that it comes to, and at no others.
+pub fn reaches(alloc: Global, nodes: &Nodes, from: RefNum, to: RefNum) -> Result<bool, Memory>
+    requires sound { (schema : Schema) × (are_sound schema (rows_in nodes.now) ≡ true) }
+    requires exact { IsExact nodes.now }
+    ensures { IfOk result (λ found. found ≡ is_among to (reached (rows_in nodes.now) from)) }
+{
+    let mut ahead = NumberSet::new(alloc);
+    let mut links = Vec::new(alloc);
+    links.push(from)?;
+    let mut back = NumberSet::new(alloc);
+    let mut holders = Vec::new(alloc);
+    holders.push(to)?;
+    loop {
+        if let Some(found) = turn(nodes, Way::Links, to, &mut ahead, &mut links)? {
+            return Ok(found);
         }
-        if seen.insert(who)? {
-            add_links_of(nodes, who, &mut waiting)?;
+        if let Some(found) = turn(nodes, Way::Holders, from, &mut back, &mut holders)? {
+            return Ok(found);
         }
     }
-    Ok(false)
 }

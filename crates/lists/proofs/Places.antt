@@ -1,8 +1,10 @@
 -- A rising list at the place that a search by key answers: what stands there, and what edits at that place leave.
-use Rattle.std.proofs.Common.{◌≡◌, ℕ, zero, suc, ◌<◌, ◌≤◌, List, [], ◌∷◌, ◌++◌, length, get_or, set, take, drop, Some, None, nat_cmp, Less, Equal, Greater, refl, arith}
+use Rattle.std.proofs.Common.{◌≡◌, ℕ, Bool, true, false, cond, nat_lt, Option, zero, suc, ◌+◌, ◌-◌, ◌<◌, ◌≤◌, List, [], ◌∷◌, ◌++◌, length, get_or, set, take, drop, HoldsAt, Some, None, nat_cmp, Less, Equal, Greater, append_assoc, refl, sym, ap, subst, ◌∙◌, arith}
+use Rattle.std.specs.List.{slice_get}
 use Rattle.std.specs.Ordering.{ordering_index}
 use Rattle.std.proofs.lemmas.Bool.Decides.{nat_tests}
-use Rattle.lists.specs.Rising.{RisesFrom, IsAbove, find, put, remove}
+use Rattle.std.proofs.lemmas.Option.{same_Some}
+use Rattle.lists.specs.Rising.{RisesFrom, IsAbove, find, after_key, put, remove}
 use Rattle.lists.proofs.RisingLaws.{key_at, find_at, find_below, remove_missing}
 
 -- a later key is no smaller
@@ -63,3 +65,136 @@ put_missing key x [] zero a r = refl
 put_missing key x (e ∷ es) zero a r = grind (arith, nat_tests)
 put_missing key x [] (suc at) a r = refl
 put_missing key x (e ∷ es) (suc at) a r = grind (arith, nat_tests, put_missing key x es at a.1 r)
+
+-- where something stands at the last place
+pub last_place : {E : Type 0} (es : List E) (x : E) → slice_get es (length es - 1) ≡ Some x → suc (length es - 1) ≡ length es
+last_place [] x h = cc
+last_place (e ∷ es) x h = omega arith
+
+-- where the last key is below a number all are
+pub above_last : {E : Type 0} (key : E → ℕ) (low k : ℕ) (es : List E) (at : ℕ) (x : E) → RisesFrom key low es → suc at ≡ length es → slice_get es at ≡ Some x → key x < k → IsAbove key k es
+above_last key low k [] at x r n h l = tt
+above_last key low k (e ∷ []) zero x r n h l = (grind (arith, nat_tests), tt)
+above_last key low k (e ∷ []) (suc at) x r n h l = absurd (omega (arith, n))
+above_last key low k (e ∷ f ∷ es) zero x r n h l = absurd (omega (arith, n))
+above_last key low k (e ∷ f ∷ es) (suc at) x r n h l =
+    let rest = above_last key (suc (key e)) k (f ∷ es) at x r.1 (omega (arith, n)) h l in
+    (omega (arith, rest.0, r.1.0), rest)
+
+-- up to the place of a key none is above it, and behind it all are
+pub above_here : {E : Type 0} (key : E → ℕ) (low k : ℕ) (es : List E) (at : ℕ) → RisesFrom key low es → at < length es → HoldsAt (λ e. key e ≡ k) es at → IsAbove key (suc k) (take (suc at) es)
+above_here key low k [] at r l h = absurd (omega arith)
+above_here key low k (e ∷ es) zero r l h = (omega (arith, h e), tt)
+above_here key low k (e ∷ es) (suc at) r l h = (omega (arith, h e, key_at key (suc (key e)) es at e r.1 (omega arith)), above_here key (suc (key e)) k es at r.1 (omega arith) h)
+
+pub rises_behind : {E : Type 0} (key : E → ℕ) (low k : ℕ) (es : List E) (at : ℕ) → RisesFrom key low es → at < length es → HoldsAt (λ e. key e ≡ k) es at → RisesFrom key (suc k) (drop (suc at) es)
+rises_behind key low k [] at r l h = absurd (omega arith)
+rises_behind key low k (e ∷ es) zero r l h = rw (← h e) r.1
+rises_behind key low k (e ∷ es) (suc at) r l h = rises_behind key (suc (key e)) k es at r.1 (omega arith) h
+
+-- ---- item by item
+
+-- all rise above a key, so all are behind it
+after_all : {E : Type 0} (key : E → ℕ) (k low : ℕ) (es : List E) → RisesFrom key low es → suc k ≤ low → after_key key (Some k) es ≡ es
+after_all key k low [] r l = refl
+after_all key k low (e ∷ es) r l = grind (arith, nat_tests, r.0, l, after_all key k (suc (key e)) es r.1)
+
+-- where those above a key begin
+pub drop_behind : {E : Type 0} (key : E → ℕ) (low k : ℕ) (es : List E) (at : ℕ) → RisesFrom key low es → IsAbove key (suc k) (take at es) → RisesFrom key (suc k) (drop at es) → drop at es ≡ after_key key (Some k) es
+drop_behind key low k es zero r above below = sym (after_all key k (suc k) es below (omega arith))
+drop_behind key low k [] (suc at) r above below = refl
+drop_behind key low k (e ∷ es) (suc at) r above below = grind (arith, nat_tests, above.0, drop_behind key (suc (key e)) k es at r.1 above.1 below)
+
+-- the next one is no lower than the first
+after_low : {E : Type 0} (key : E → ℕ) (low k : ℕ) (es : List E) (x : E) → RisesFrom key low es → slice_get (after_key key (Some k) es) 0 ≡ Some x → low ≤ key x
+after_low key low k [] x r h = cc
+after_low key low k (e ∷ es) x r h = by_test (nat_lt k (key e)) h (λ g. after_low key (suc (key e)) k es x r.1 g)
+  where
+    by_test : (b : Bool) → slice_get (cond b (e ∷ after_key key (Some k) es) (after_key key (Some k) es)) 0 ≡ Some x → (slice_get (after_key key (Some k) es) 0 ≡ Some x → suc (key e) ≤ key x) → low ≤ key x
+    by_test true h rest = let same : e ≡ x = same_Some e x h in grind (arith, nat_tests, same, r.0)
+    by_test false h rest = omega (arith, r.0, rest h)
+
+-- the items behind a key are the next one and those behind it
+pub after_next : {E : Type 0} (key : E → ℕ) (low : ℕ) (from : Option ℕ) (es : List E) (x : E) → RisesFrom key low es → slice_get (after_key key from es) 0 ≡ Some x →
+    after_key key from es ≡ x ∷ after_key key (Some (key x)) es
+after_next key low None [] x r h = cc
+after_next key low None (e ∷ es) x r h =
+    let same : e ≡ x = same_Some e x h in
+    let rest : after_key key (Some (key e)) es ≡ es = after_all key (key e) (suc (key e)) es r.1 (omega arith) in
+    grind (arith, nat_tests, same, rest)
+after_next key low (Some k) [] x r h = cc
+after_next key low (Some k) (e ∷ es) x r h = by_test (nat_lt k (key e)) refl h (after_next key (suc (key e)) (Some k) es x r.1)
+  where
+    by_test : (b : Bool) → nat_lt k (key e) ≡ b → slice_get (cond b (e ∷ after_key key (Some k) es) (after_key key (Some k) es)) 0 ≡ Some x →
+        (slice_get (after_key key (Some k) es) 0 ≡ Some x → after_key key (Some k) es ≡ x ∷ after_key key (Some (key x)) es) →
+        cond b (e ∷ after_key key (Some k) es) (after_key key (Some k) es) ≡ x ∷ after_key key (Some (key x)) (e ∷ es)
+    by_test true is h rest =
+        let same : e ≡ x = same_Some e x h in
+        let behind : after_key key (Some (key e)) es ≡ es = after_all key (key e) (suc (key e)) es r.1 (omega arith) in
+        let all : after_key key (Some k) es ≡ es = after_all key k (suc (key e)) es r.1 (grind (arith, nat_tests, is)) in
+        grind (arith, nat_tests, same, behind, all)
+    by_test false is h rest = let more = after_low key (suc (key e)) k es x r.1 h in let rest_is = rest h in grind (arith, nat_tests, more, rest_is)
+
+-- nothing is left where there is no next one
+pub after_none : {E : Type 0} (es : List E) → slice_get es 0 ≡ None → es ≡ []
+after_none [] h = refl
+after_none (e ∷ es) h = cc
+
+module _ {E : Type 0} (key : E → ℕ) (es out : List E) (from : Option ℕ) (x : E) (rises : RisesFrom key 0 es) (next : slice_get (after_key key from es) 0 ≡ Some x) where
+  -- what was passed, and the next item
+  pub passed_next : out ++ after_key key from es ≡ es → (out ++ x ∷ []) ++ after_key key (Some (key x)) es ≡ es
+  passed_next so_far = append_assoc out (x ∷ []) (after_key key (Some (key x)) es) ∙ (ap (λ l. out ++ l) (sym (after_next key 0 from es x rises next)) ∙ so_far)
+
+  -- fewer are left
+  pub fewer_after : length (after_key key (Some (key x)) es) < length (after_key key from es)
+  fewer_after = rw (after_next key 0 from es x rises next) (omega arith)
+
+  -- the next item is above those that were passed
+  pub above_passed : out ++ after_key key from es ≡ es → IsAbove key (key x) out
+  above_passed so_far = above_front 0 out (after_key key (Some (key x)) es) (subst (RisesFrom key 0) (sym passed_whole) rises)
+    where
+      passed_whole : out ++ x ∷ after_key key (Some (key x)) es ≡ es
+      passed_whole = ap (λ l. out ++ l) (sym (after_next key 0 from es x rises next)) ∙ so_far
+
+      at_least : (low : ℕ) (xs ys : List E) → RisesFrom key low (xs ++ x ∷ ys) → low ≤ key x
+      at_least low [] ys r = r.0
+      at_least low (z ∷ xs) ys r = omega (arith, r.0, at_least (suc (key z)) xs ys r.1)
+
+      above_front : (low : ℕ) (xs ys : List E) → RisesFrom key low (xs ++ x ∷ ys) → IsAbove key (key x) xs
+      above_front low [] ys r = tt
+      above_front low (z ∷ xs) ys r = (at_least (suc (key z)) xs ys r.1, above_front (suc (key z)) xs ys r.1)
+
+-- ---- place by place
+
+-- what stands at a place, and what is behind it
+at_place : {E : Type 0} (es : List E) (n : ℕ) (x : E) (rest : List E) → drop n es ≡ x ∷ rest → (slice_get es n ≡ Some x) × (drop (suc n) es ≡ rest)
+at_place [] zero x rest h = cc
+at_place [] (suc n) x rest h = cc
+at_place (e ∷ es) zero x rest h = (cc, cc)
+at_place (e ∷ es) (suc n) x rest h = at_place es n x rest h
+
+no_place : {E : Type 0} (es : List E) (n : ℕ) → drop n es ≡ [] → (slice_get es n ≡ None) × (drop (suc n) es ≡ [])
+no_place [] zero h = (refl, refl)
+no_place [] (suc n) h = (refl, refl)
+no_place (e ∷ es) zero h = cc
+no_place (e ∷ es) (suc n) h = no_place es n h
+
+module _ {E : Type 0} (key : E → ℕ) (es : List E) (n : ℕ) (from : Option ℕ) (stands : after_key key from es ≡ drop n es) where
+  -- where the next item behind a key is the n-th one, that behind it is the next
+  pub nth_next : (x : E) → RisesFrom key 0 es → slice_get (after_key key from es) 0 ≡ Some x → (slice_get es n ≡ Some x) × (after_key key (Some (key x)) es ≡ drop (n + 1) es)
+  nth_next x rises next =
+      let parts = at_place es n x (after_key key (Some (key x)) es) (sym stands ∙ after_next key 0 from es x rises next) in
+      (parts.0, rw plus_one (sym parts.1))
+    where
+      plus_one : n + 1 ≡ suc n
+      plus_one = omega arith
+
+  -- where there is none behind it, there is no n-th one
+  pub nth_none : slice_get (after_key key from es) 0 ≡ None → (slice_get es n ≡ None) × (after_key key from es ≡ drop (n + 1) es)
+  nth_none none =
+      let nothing = after_none (after_key key from es) none in
+      let parts = no_place es n (sym stands ∙ nothing) in
+      (parts.0, nothing ∙ sym (rw plus_one parts.1))
+    where
+      plus_one : n + 1 ≡ suc n
+      plus_one = omega arith

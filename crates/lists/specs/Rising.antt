@@ -25,6 +25,11 @@ put key x (e ∷ es) = cond (nat_lt (key x) (key e)) (x ∷ e ∷ es) (cond (key
 abbrev pub remove : {E : Type 0} → (E → ℕ) → ℕ → List E → List E
 remove key k es = filter (λ e. not (key e == k)) es
 
+-- the items behind a key, or all
+abbrev pub after_key : {E : Type 0} → (E → ℕ) → Option ℕ → List E → List E
+after_key key None es = es
+after_key key (Some k) es = filter (λ e. nat_lt k (key e)) es
+
 -- the keys of the items
 abbrev pub keys : {E : Type 0} → (E → ℕ) → List E → List ℕ
 keys key es = map key es

@@ -1,6 +1,6 @@
-ghost use Rattle.std.specs.Prelude.{◌≡◌, ◌-◌, suc, ◌<◌, ◌≤◌, ◌==◌, None, [], ◌∷◌, ◌++◌, length, take, drop, HoldsAt, is_ok, if◌then◌else◌, OnOk, OnErr, IfOk, IfErr, option_copied};
+ghost use Rattle.std.specs.Prelude.{◌≡◌, ◌-◌, suc, ◌<◌, ◌≤◌, ◌==◌, None, [], ◌∷◌, ◌++◌, length, take, drop, slice_get, Some, HoldsAt, is_ok, if◌then◌else◌, OnOk, OnErr, IfOk, IfErr, IfSome, option_copied, true};
 ghost use Rattle.std.specs.Option.{option_to_list};
-ghost use Rattle.lists.specs.Rising.{RisesFrom, IsAbove, find, put, remove};
+ghost use Rattle.lists.specs.Rising.{RisesFrom, IsAbove, after_key, find, put, remove};
 
 use crate::memory::Memory;
 use std::alloc::Global;
@@ -74,6 +74,14 @@ impl<T: Keyed> Rising<T> {
         }
     }
 
+    /// The first item, or the first behind a key.
+    pub fn after(&self, key: Option<u32>) -> Option<&T>
+        ensures { option_copied result ≡ slice_get (after_key T.key key self.now) 0 }
+    {
+        let items = self.items.as_slice();
+        items[place_after(items, key)..].first()
+    }
+
     /// Adds an item behind all others. An `Err` changes nothing.
     pub fn push(&mut self, item: T) -> Result<(), Memory>
         requires { IsAbove T.key (T.key item) self.old }
@@ -120,11 +128,62 @@ impl<T: Keyed> Rising<T> {
     }
 }
 
-// Where the item with this key stands, or else where it would stand.
-fn search<T: Keyed>(items: &[T], key: u32) -> Result<usize, usize>
+/// Where the item with this key stands, or else where it would stand. It looks first where the item stands if no key is
+/// left out between the first one and this, and then at the last item.
+pub fn search<T: Keyed>(items: &[T], key: u32) -> Result<usize, usize>
     requires { RisesFrom T.key 0 items.now }
     ensures found { IfOk result (λ at. (at < length items.now) × HoldsAt (λ e. T.key e ≡ key) items.now at) }
     ensures missing { IfErr result (λ at. (at ≤ length items.now) × IsAbove T.key key (take at items.now) × RisesFrom T.key (suc key) (drop at items.now)) }
 {
+    if let Some(at) = guessed(items, key) {
+        return Ok(at);
+    }
+    if are_below(items, key) {
+        return Err(items.len());
+    }
     items.binary_search_by_key(&key, |item| item.key())
+}
+
+/// Where the first item stands, or the first behind a key.
+pub fn place_after<T: Keyed>(items: &[T], key: Option<u32>) -> usize
+    requires { RisesFrom T.key 0 items.now }
+    ensures within { result ≤ length items.now }
+    ensures after { drop result items.now ≡ after_key T.key key items.now }
+{
+    match key {
+        Some(key) => place_behind(items, key),
+        None => 0,
+    }
+}
+
+fn place_behind<T: Keyed>(items: &[T], key: u32) -> usize
+    requires { RisesFrom T.key 0 items.now }
+    ensures within { result ≤ length items.now }
+    ensures after { drop result items.now ≡ after_key T.key (Some key) items.now }
+{
+    match search(items, key) {
+        Ok(at) => at + 1,
+        Err(at) => at,
+    }
+}
+
+// Where the item with this key stands, if no key is left out between the first one and this.
+fn guessed<T: Keyed>(items: &[T], key: u32) -> Option<usize>
+    ensures { IfSome result (λ at. (at < length items.now) × HoldsAt (λ e. T.key e ≡ key) items.now at) }
+{
+    let first = items.first()?;
+    let at = key.checked_sub(first.key())? as usize;
+    let item = items.get(at)?;
+    if item.key() == key { Some(at) } else { None }
+}
+
+// The last item's key is below this one, or there is no item.
+fn are_below<T: Keyed>(items: &[T], key: u32) -> bool
+    requires { RisesFrom T.key 0 items.now }
+    ensures { result ≡ true → IsAbove T.key key items.now }
+{
+    match items.last() {
+        Some(item) => item.key() < key,
+        None => true,
+    }
 }

@@ -1,10 +1,14 @@
 //! Items under their own numbers, and texts that lead to numbers, found in logarithmic time.
 #![tactic(auto)]
 
+pub mod holes;
 pub mod numbered;
+pub mod slot;
 pub mod text_index;
 pub mod tree;
 
+pub use holes::{close_holes, drop_last_holes};
 pub use numbered::Numbered;
+pub use slot::Slot;
 pub use text_index::TextIndex;
 pub use tree::Tree;

@@ -1,33 +1,44 @@
-use Rattle.std.proofs.Common.{ℕ, ◌<◌, ◌∙◌, length, ap, arith, refl}
-use Rattle.std.specs.Option.{option_map_or}
+use Rattle.std.proofs.Common.{ℕ, ◌≡◌, [], Some, None, length, option_copied, arith, sym, ap, ◌∙◌}
+use Rattle.std.specs.List.{slice_get}
+use Rattle.std.proofs.lemmas.List.Sums.{sum_by-cons}
+use Rattle.lists.specs.Rising.{after_key}
+use Rattle.lists.proofs.Places.{after_next, after_none, fewer_after}
+use Rattle.collection_ops.specs.Bodies.{map_number}
 use Rattle.state_model.specs.declared.row.MapItem.{MapItem}
-use Rattle.state_model.specs.State.{text_limit}
-use Rattle.instance_table.proofs.AmountLaws.{sum_all, sum_grown, sum_same, sum_bounded}
 use Rattle.instance_table.proofs.amounts.keys_size.Goals as goal
-use Rattle.instance_table.proofs.amounts.keys_size.Goals.{in-Some, in_default}
 
 -- how many bytes a key is
 abbrev key_size : MapItem → ℕ
 key_size i = length i.key
 
-pub loop-n-init : goal.loop-n-init
-loop-n-init c = refl
-
 pub overflow_add-size : goal.overflow_add-size
 overflow_add-size c =
     let items = c.args.items.now.items in
-    let within : c.loop-n.n < length items = omega (arith, c.len-count.ensures, c.loop-n-test.true) in
-    omega (arith, sum_bounded key_size c.loop-n.size c.loop-n.n c.len-size.result text_limit items within c.loop-n.invariant (c.len-size.ensures ∙ ap (λ o. option_map_or key_size o 0) c.in-Some.ensures) c.requires)
+    let x = c.in-Some.item.now in
+    let next : slice_get (after_key map_number c.loop-item.behind items) 0 ≡ Some x = sym c.in-Some.ensures.value in
+    let split = after_next map_number 0 c.loop-item.behind items x c.in-Some.ensures.rises next in
+    let whole = rw split at c.loop-item.invariant in
+    let one = sum_by-cons key_size x (after_key map_number (Some x.number) items) in
+    omega (arith, whole, one, c.len-size.ensures, c.requires)
 
-pub loop-n-preserved : goal.loop-n-preserved
-loop-n-preserved c =
+pub loop-item-smaller : goal.loop-item-smaller
+loop-item-smaller c =
     let items = c.args.items.now.items in
-    let within : c.loop-n.n < length items = omega (arith, c.len-count.ensures, c.loop-n-test.true) in
-    elim c.match-at.branch [
-      | in-Some w ↦ rw w.size-is (sum_grown key_size c.loop-n.size c.loop-n.n w.len-size.result items within c.loop-n.invariant (w.len-size.ensures ∙ ap (λ o. option_map_or key_size o 0) w.in-Some.ensures))
-      | in_default w ↦ rw w.size-is (sum_same key_size c.loop-n.size c.loop-n.n items within c.loop-n.invariant w.in_default.ensures)
-    ]
+    fewer_after map_number items [] c.loop-item.behind c.in-Some.item.now c.in-Some.ensures.rises (sym c.in-Some.ensures.value)
+
+pub loop-item-preserved : goal.loop-item-preserved
+loop-item-preserved c =
+    let items = c.args.items.now.items in
+    let x = c.in-Some.item.now in
+    let next : slice_get (after_key map_number c.loop-item.behind items) 0 ≡ Some x = sym c.in-Some.ensures.value in
+    let split = after_next map_number 0 c.loop-item.behind items x c.in-Some.ensures.rises next in
+    let whole = rw split at c.loop-item.invariant in
+    let one = sum_by-cons key_size x (after_key map_number (Some x.number) items) in
+    omega (arith, whole, one, c.len-size.ensures)
 
 pub returns : goal.returns
 returns c =
-    sum_all key_size c.loop-n.size c.loop-n.n c.args.items.now.items (omega (arith, c.len-count.ensures, c.loop-n-test.false, c.loop-n.auto.n-end)) c.loop-n.invariant
+    let left = after_key map_number c.loop-item.behind c.args.items.now.items in
+    let none : slice_get left 0 ≡ None = sym c.after.ensures.value ∙ ap option_copied c.in_default.is in
+    let whole = rw (after_none left none) at c.loop-item.invariant in
+    omega (arith, whole)

@@ -1,21 +1,26 @@
-use Rattle.std.proofs.Common.{◌≡◌, ◌∙◌, ◌<◌, length, ap, arith}
+use Rattle.std.proofs.Common.{◌≡◌, ◌∙◌, ◌<◌, length, ap, sym, append-nil, arith}
 use Rattle.std.specs.Prelude.{option_copied, slice_get}
 use Rattle.state_model.specs.Rows.{values_in}
 use Rattle.command_laws.specs.Accounts.{held_in_value}
 use Rattle.instance_table.specs.Bodies.{row_of}
+use Rattle.instance_table.proofs.PlaceSteps.{behind_start}
 use Rattle.instance_table.proofs.LinkLaws.{links_all, links_next}
 use Rattle.instance_table.proofs.behind.add_all_links.Goals as goal
+
+pub loop-n-init : goal.loop-n-init
+loop-n-init g c = record { links = sym (append-nil c.args.links.now.items); cost = omega arith; behind = behind_start (row_of c.args.body.now) }
 
 pub loop-n-preserved : goal.loop-n-preserved
 loop-n-preserved g c =
     let values = values_in (row_of c.args.body.now) in
-    let at : option_copied c.value_nth.result ≡ slice_get values c.loop-n.n = c.value_nth.ensures in
+    let at : option_copied c.value_nth-next.result.0 ≡ slice_get values c.loop-n.n = c.value_nth-next.ensures.value in
     let held = c.link_of.ensures.held ∙ ap held_in_value at in
     let here : c.loop-n.n < length values = omega (arith, c.len-count.ensures, c.loop-n-test.true) in
     record {
       links = links_next c.args.links.now.items c.loop-n.links.items c.add_link.new.links.items c.loop-n.n values
           c.link_of.result here held c.loop-n.invariant.links c.in_ok-add_link.ensures;
       cost = omega (arith, c.loop-n.invariant.cost, c.tick.ensures);
+      behind = c.value_nth-next.ensures.next;
     }
 
 pub returns-clause-links : goal.returns-clause-links

@@ -1,6 +1,6 @@
 use Rattle.std.proofs.Common.{◌≡◌, ◌+◌, ◌++◌}
 use Rattle.state_model.specs.Rows.{values_in}
-use Rattle.instance_table.specs.Bodies.{row_of}
+use Rattle.instance_table.specs.Bodies.{IsBehind, row_of}
 use Rattle.instance_table.proofs.LinkLaws.{held_first}
 use Rattle.instance_table.proofs.behind.add_all_links.Given as goal
 
@@ -8,4 +8,5 @@ abbrev pub invariant-loop-n : goal.invariant-loop-n
 invariant-loop-n g l = record {
   links : l.links.items ≡ l.initial.links.items ++ held_first l.n (values_in (row_of l.body));
   cost : l.steps ≡ l.initial.steps + l.n;
+  behind : IsBehind (row_of l.body) l.n l.behind;
 }

@@ -1,8 +1,11 @@
 use Rattle.std.proofs.Common.{◌≡◌, ◌++◌}
 use Rattle.state_model.specs.Rows.{values_in}
-use Rattle.instance_table.specs.Bodies.{row_of}
+use Rattle.instance_table.specs.Bodies.{IsBehind, row_of}
 use Rattle.instance_table.proofs.LinkLaws.{held_first}
 use Rattle.instance_table.proofs.links.add_links.Given as goal
 
 abbrev pub invariant-loop-n : goal.invariant-loop-n
-invariant-loop-n l = l.links.items ≡ l.fn.links.items ++ held_first l.n (values_in (row_of l.body))
+invariant-loop-n l = record {
+  links : l.links.items ≡ l.fn.links.items ++ held_first l.n (values_in (row_of l.body));
+  behind : IsBehind (row_of l.body) l.n l.behind;
+}

@@ -1,41 +1,42 @@
-use Rattle.std.proofs.Common.{◌≡◌, ◌∙◌, cond, nat_cmp, ap, ap₂, sym, subst, is_ok, Option, Some, IfSome}
-use Rattle.std.specs.BTreeMap.{is_at}
-use Rattle.std.specs.Map.{set_value}
+use Rattle.std.proofs.Common.{◌∙◌, ◌≡◌, Option, IfSome, cond, is_ok, sym, ap, ap₂, subst}
+use Rattle.lists.specs.Rising.{RisesFrom}
+use Rattle.trees.specs.declared.slot.Slot.{Slot}
+use Rattle.trees.specs.Slots.{entries_in}
 use Rattle.instance_table.specs.declared.node.Node.{Node}
 use Rattle.instance_table.specs.Bodies.{CanEdit}
 use Rattle.instance_table.specs.Changes.{edited_node}
-use Rattle.instance_table.specs.Nodes.{at_node, node_at}
-use Rattle.instance_table.proofs.NodeLaws.{written, absent_at, at_if, found_at}
+use Rattle.instance_table.specs.Nodes.{at_node, node_at, number_of}
+use Rattle.instance_table.proofs.NodeLaws.{at_missing, entries_rise, slot_found, slot_missing, slots_edited}
 use Rattle.instance_table.proofs.nodes.Nodes.edit.Goals as goal
-use Rattle.instance_table.proofs.nodes.Nodes.edit.Goals.{in-Some, in-None}
+
+pub returns-in_default-clause-after : goal.returns-in_default-clause-after
+returns-in_default-clause-after c =
+    let sides = rw c.as_slice.ensures.value at c.in_default.ensures.missing in
+    let none = slot_missing c.who.inside.0 c.self.inside.slots.items c.in_default.field-0 c.self.invariant.0 sides.1 sides.2 in
+    let same = at_missing c.who.inside.0 (edited_node c.args.command.now) (entries_in c.self.inside.slots.items) none in
+    sym c.self.view_is ∙ (sym same ∙ ap₂ (λ k es. at_node k (edited_node c.args.command.now) es) c.who.view_is c.self.view_is)
+
+pub returns-in_default-clause-rises : goal.returns-in_default-clause-rises
+returns-in_default-clause-rises c = subst (RisesFrom number_of 0) c.self.view_is (entries_rise 0 c.self.inside.slots.items c.self.invariant.0)
+
+pub invariant_of-self : goal.invariant_of-self
+invariant_of-self c =
+    let here = rw c.as_slice.ensures.value at c.in-Ok.ensures.found in
+    let law = slots_edited (is_ok c.edit.result) (edited_node c.args.command.now) c.who.inside.0 c.self.inside.slots.items c.in-Ok.at c.index_mut.result.now c.edit.new.slot c.self.inside.len c.self.invariant.0 c.self.invariant.1 here.0 here.1 c.index_mut.ensures.value c.edit.ensures.after in
+    law.0
+
+pub returns-clause-after : goal.returns-clause-after
+returns-clause-after c =
+    let here = rw c.as_slice.ensures.value at c.in-Ok.ensures.found in
+    let law = slots_edited (is_ok c.edit.result) (edited_node c.args.command.now) c.who.inside.0 c.self.inside.slots.items c.in-Ok.at c.index_mut.result.now c.edit.new.slot c.self.inside.len c.self.invariant.0 c.self.invariant.1 here.0 here.1 c.index_mut.ensures.value c.edit.ensures.after in
+    law.1 ∙ ap₂ (λ k es. cond (is_ok c.edit.result) (at_node k (edited_node c.args.command.now) es) es) c.who.view_is c.self.view_is
+
+pub returns-clause-rises : goal.returns-clause-rises
+returns-clause-rises c = subst (RisesFrom number_of 0) c.self.view_is (entries_rise 0 c.self.inside.slots.items c.self.invariant.0)
 
 pub edit-requires : goal.edit-requires
 edit-requires c =
-    let there : Some c.in-Some.node.now ≡ node_at c.args.self.now c.args.who = found_at c.who.inside.0 c.args.who c.self.inside.entries.entries c.args.self.now _ c.who.view_is c.self.view_is c.in-Some.ensures.value in
-    subst (λ (o : Option Node). IfSome o (λ n. CanEdit c.args.command.now n.body)) (sym there) c.requires
-
-pub invariant_of-self : goal.invariant_of-self
-invariant_of-self c = elim c.match-get_mut.branch [
-  | in-Some w ↦
-      let es = c.self.inside.entries.entries in
-      let f : Node → Node = λ n. cond (is_ok w.edit.result) (edited_node c.args.command.now n) n in
-      let e = (c.get_mut.follows.holds w.edit.new.node).0 ∙ ap (set_value (is_at (nat_cmp c.who.inside.0)) es) w.edit.ensures.after in
-      let new = written c.who.inside.0 f w.in-Some.node.now es _ c.self.invariant w.in-Some.ensures.value e in
-      rw w.self-inside-is new.1
-  | in-None w ↦ rw (w.self-inside-is, c.get_mut.follows.holds-at-none) c.self.invariant
-]
-
-pub returns-clause-after : goal.returns-clause-after
-returns-clause-after c = elim c.match-get_mut.branch [
-  | in-Some w ↦
-      let es = c.self.inside.entries.entries in
-      let f : Node → Node = λ n. cond (is_ok w.edit.result) (edited_node c.args.command.now n) n in
-      let e = (c.get_mut.follows.holds w.edit.new.node).0 ∙ ap (set_value (is_at (nat_cmp c.who.inside.0)) es) w.edit.ensures.after in
-      let new = written c.who.inside.0 f w.in-Some.node.now es _ c.self.invariant w.in-Some.ensures.value e in
-      let chosen = ap₂ (λ k l. at_node k f l) c.who.view_is c.self.view_is ∙ at_if (is_ok w.edit.result) c.args.who (edited_node c.args.command.now) c.args.self.now in
-      rw (w.self-inside-is, w.result-is) (new.0 ∙ chosen)
-  | in-None w ↦
-      let same = absent_at c.who.inside.0 (edited_node c.args.command.now) c.self.inside.entries.entries w.in-None.ensures.value in
-      rw (w.self-inside-is, w.result-is, c.get_mut.follows.holds-at-none)
-      (c.self.view_is ∙ (sym c.self.view_is ∙ (sym same ∙ ap₂ (λ k l. at_node k (edited_node c.args.command.now) l) c.who.view_is c.self.view_is)))
-]
+    let here = rw c.as_slice.ensures.value at c.in-Ok.ensures.found in
+    let found = slot_found c.who.inside.0 c.self.inside.slots.items c.in-Ok.at c.index_mut.result.now c.self.invariant.0 here.0 (here.1 c.index_mut.result.now) in
+    let there : node_at c.args.self.now c.args.who ≡ c.index_mut.result.now.item = sym (ap₂ node_at c.self.view_is c.who.view_is) ∙ (found ∙ ap (λ (s : Slot Node). s.item) (sym c.index_mut.ensures.value)) in
+    subst (λ (o : Option Node). IfSome o (λ n. CanEdit c.args.command.now n.body)) there c.requires

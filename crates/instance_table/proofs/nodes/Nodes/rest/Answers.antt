@@ -1,28 +1,31 @@
-use Rattle.std.proofs.Common.{◌∙◌, nat_cmp, ap, ap₂, sym}
-use Rattle.std.specs.BTreeMap.{is_at}
-use Rattle.std.specs.Map.{set_value}
-use Rattle.instance_table.specs.Nodes.{at_node, rested}
-use Rattle.instance_table.proofs.NodeLaws.{written, absent_at}
+use Rattle.std.proofs.Common.{◌∙◌, true, sym, ap₂, subst}
+use Rattle.lists.specs.Rising.{RisesFrom}
+use Rattle.trees.specs.Slots.{entries_in}
+use Rattle.instance_table.specs.Nodes.{at_node, number_of, rested}
+use Rattle.instance_table.proofs.NodeLaws.{at_missing, entries_rise, slot_missing, slots_edited}
 use Rattle.instance_table.proofs.nodes.Nodes.rest.Goals as goal
-use Rattle.instance_table.proofs.nodes.Nodes.rest.Goals.{in-Some, in_default}
+
+pub returns-in_default-clause-after : goal.returns-in_default-clause-after
+returns-in_default-clause-after c =
+    let sides = rw c.as_slice.ensures.value at c.in_default.ensures.missing in
+    let none = slot_missing c.who.inside.0 c.self.inside.slots.items c.in_default.field-0 c.self.invariant.0 sides.1 sides.2 in
+    let same = at_missing c.who.inside.0 (rested) (entries_in c.self.inside.slots.items) none in
+    sym c.self.view_is ∙ (sym same ∙ ap₂ (λ k es. at_node k (rested) es) c.who.view_is c.self.view_is)
+
+pub returns-in_default-clause-rises : goal.returns-in_default-clause-rises
+returns-in_default-clause-rises c = subst (RisesFrom number_of 0) c.self.view_is (entries_rise 0 c.self.inside.slots.items c.self.invariant.0)
 
 pub invariant_of-self : goal.invariant_of-self
-invariant_of-self c = elim c.match-get_mut.branch [
-  | in-Some w ↦
-      let es = c.self.inside.entries.entries in
-      let e = (c.get_mut.follows.holds w.rest.new.node).0 ∙ ap (set_value (is_at (nat_cmp c.who.inside.0)) es) w.rest.ensures in
-      rw w.self-inside-is (written c.who.inside.0 rested w.in-Some.node.now es _ c.self.invariant w.in-Some.ensures.value e).1
-  | in_default w ↦ rw (w.self-inside-is, c.get_mut.follows.holds-at-none) c.self.invariant
-]
+invariant_of-self c =
+    let here = rw c.as_slice.ensures.value at c.in-Ok.ensures.found in
+    let law = slots_edited true (rested) c.who.inside.0 c.self.inside.slots.items c.in-Ok.at c.index_mut.result.now c.rest.new.slot c.self.inside.len c.self.invariant.0 c.self.invariant.1 here.0 here.1 c.index_mut.ensures.value c.rest.ensures in
+    law.0
 
 pub returns-clause-after : goal.returns-clause-after
-returns-clause-after c = elim c.match-get_mut.branch [
-  | in-Some w ↦
-      let es = c.self.inside.entries.entries in
-      let e = (c.get_mut.follows.holds w.rest.new.node).0 ∙ ap (set_value (is_at (nat_cmp c.who.inside.0)) es) w.rest.ensures in
-      let new = written c.who.inside.0 rested w.in-Some.node.now es _ c.self.invariant w.in-Some.ensures.value e in
-      rw w.self-inside-is (new.0 ∙ ap₂ (λ k l. at_node k rested l) c.who.view_is c.self.view_is)
-  | in_default w ↦
-      let same = absent_at c.who.inside.0 rested c.self.inside.entries.entries w.in_default.ensures.value in
-      rw (w.self-inside-is, c.get_mut.follows.holds-at-none) (sym same ∙ ap₂ (λ k l. at_node k rested l) c.who.view_is c.self.view_is)
-]
+returns-clause-after c =
+    let here = rw c.as_slice.ensures.value at c.in-Ok.ensures.found in
+    let law = slots_edited true (rested) c.who.inside.0 c.self.inside.slots.items c.in-Ok.at c.index_mut.result.now c.rest.new.slot c.self.inside.len c.self.invariant.0 c.self.invariant.1 here.0 here.1 c.index_mut.ensures.value c.rest.ensures in
+    law.1 ∙ ap₂ (λ k es. at_node k (rested) es) c.who.view_is c.self.view_is
+
+pub returns-clause-rises : goal.returns-clause-rises
+returns-clause-rises c = subst (RisesFrom number_of 0) c.self.view_is (entries_rise 0 c.self.inside.slots.items c.self.invariant.0)

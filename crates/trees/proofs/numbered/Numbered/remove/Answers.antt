@@ -1,14 +1,23 @@
-use Rattle.std.proofs.Common.{sym}
-use Rattle.lists.proofs.RisingLaws.{RisesFrom-remove}
-use Rattle.trees.proofs.PlaceLaws.{numbers_rise, numbers-remove}
+use Rattle.std.proofs.Common.{◌∙◌, sym, arith}
+use Rattle.trees.specs.Slots.{item_of, items_in}
+use Rattle.trees.proofs.SlotLaws.{item_agrees, length-missed, length-taken}
 use Rattle.trees.proofs.numbered.Numbered.remove.Goals as goal
-
-pub take_out-requires : goal.take_out-requires
-take_out-requires g c = rw c.self.invariant.0 (numbers_rise g.T.Keyed.key 0 c.self.inside.items c.self.invariant.1)
 
 pub invariant_of-self : goal.invariant_of-self
 invariant_of-self g c =
-    let key = g.T.Keyed.key in
-    let left = rw c.self.invariant.0 at c.take_out.ensures in
-    rw (c.remove.ensures.rest, left)
-    (sym (numbers-remove key c.args.number c.self.inside.items), RisesFrom-remove key 0 c.args.number c.self.inside.items c.self.invariant.1)
+    let take = c.take_out.ensures in
+    let same = length-missed item_of item_agrees g.T.Keyed.key 0 c.args.number (items_in c.self.inside.slots.items) take.before (sym take.found ∙ c.in_err-item.was) in
+    (take.rises, take.own, rw take.rest (c.self.invariant.2 ∙ sym same))
+
+pub invariant_of-self-then-len-self : goal.invariant_of-self-then-len-self
+invariant_of-self-then-len-self g c =
+    let take = c.take_out.ensures in
+    let close = c.close_holes.ensures in
+    let less = length-taken item_of item_agrees g.T.Keyed.key 0 c.args.number (items_in c.self.inside.slots.items) c.in_ok-item.item take.before (sym take.found ∙ c.in_ok-item.was) in
+    (close.rises, close.own g.T.Keyed.key take.own, rw (close.items, take.rest) (omega (arith, c.self.invariant.2, less)))
+
+pub invariant_of-self-else-len-self : goal.invariant_of-self-else-len-self
+invariant_of-self-else-len-self g c =
+    let take = c.take_out.ensures in
+    let less = length-taken item_of item_agrees g.T.Keyed.key 0 c.args.number (items_in c.self.inside.slots.items) c.in_ok-item.item take.before (sym take.found ∙ c.in_ok-item.was) in
+    (take.rises, take.own, rw take.rest (omega (arith, c.self.invariant.2, less)))
