@@ -1,6 +1,7 @@
 -- Blocks that have bytes: what the writer asks of its caller.
 use Rattle.std.specs.Prelude.{ℕ, ◌^◌, Bool, true, false, not, ◌&&◌, List, length, Option, Some, None, nat_lt, is_some}
 use Rattle.std.specs.List.{list_all}
+use Rattle.schema_model.specs.Classes.{most_fields}
 use Rattle.schema_model.specs.Fits.{fits}
 pub use Rattle.state_model.specs.Spelled.{is_count}
 use Rattle.wire_model.specs.declared.op.OpKey.{OpKey}
@@ -16,9 +17,9 @@ abbrev pub is_type : Option ℕ → Bool
 is_type None = true
 is_type (Some class) = is_count class
 
--- a field is below 63, a number is in range, a key is shorter than 2^32 bytes
+-- a field is below the most that a class has, a number is in range, a key is shorter than 2^32 bytes
 abbrev pub is_place : OpKey → Bool
-is_place (key.Field index) = nat_lt index 63
+is_place (key.Field index) = nat_lt index most_fields
 is_place (key.Item number) = is_count number
 is_place (key.Named number name) = is_count number && nat_lt (length name) (2 ^ 32)
 

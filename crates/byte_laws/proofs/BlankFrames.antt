@@ -12,7 +12,7 @@ use Rattle.wire_model.specs.declared.op.OpKey.{OpKey}
 use Rattle.wire_model.specs.declared.op.OpKey.TheVariants as key
 use Rattle.wire_model.specs.declared.op.Op.{Op}
 use Rattle.wire_model.specs.declared.op.Op.TheVariants as op
-use Rattle.wire_model.specs.Edits.{Edit, EditBlock, told, told_block, told_blocks}
+use Rattle.wire_model.specs.Edits.{Edit, EditBlock, encoded, encoded_block, encoded_blocks}
 use Rattle.wire_model.specs.OpBytes.{op_bytes, head_bytes, value_bytes, block_bytes, whole_block, first_block}
 use Rattle.wire_model.specs.Patch.{block_of, common_block, new_edits, new_blocks, next_named, named_in, named_by_blocks, row_edits, patch_edits, common_blocks}
 use Rattle.wire_model.specs.Effect.{apply_edits}
@@ -94,22 +94,22 @@ patch_has schema old new =
 
 -- ---- their bytes
 
-ops_have : (es : List Edit) → has_item es ≡ true → has_item (flat_map op_bytes (map told es)) ≡ true
+ops_have : (es : List Edit) → has_item es ≡ true → has_item (flat_map op_bytes (map encoded es)) ≡ true
 ops_have [] h = h
-ops_have (e ∷ es) h = item_first (op_bytes (told e)) (flat_map op_bytes (map told es)) (op_has (told e))
+ops_have (e ∷ es) h = item_first (op_bytes (encoded e)) (flat_map op_bytes (map encoded es)) (op_has (encoded e))
 
-first_has : (bare : Bool) (b : EditBlock) → has_edit b ≡ true → has_item (first_block bare (told_block b)) ≡ true
+first_has : (bare : Bool) (b : EditBlock) → has_edit b ≡ true → has_item (first_block bare (encoded_block b)) ≡ true
 first_has bare b h = by (bare && (b.holder == 0))
   where
-    by : (t : Bool) → has_item (cond t (flat_map op_bytes (map told b.edits)) (whole_block (told_block b))) ≡ true
+    by : (t : Bool) → has_item (cond t (flat_map op_bytes (map encoded b.edits)) (whole_block (encoded_block b))) ≡ true
     by true = ops_have b.edits h
     by false = refl
 
 -- blocks that each have an operation have bytes exactly where there is one
-blocks_tell : (bare : Bool) (bs : List EditBlock) → list_all has_edit bs ≡ true → has_item (block_bytes (told_blocks bs) bare) ≡ not (is_blank bs)
+blocks_tell : (bare : Bool) (bs : List EditBlock) → list_all has_edit bs ≡ true → has_item (block_bytes (encoded_blocks bs) bare) ≡ not (is_blank bs)
 blocks_tell bare [] h = refl
 blocks_tell bare (b ∷ bs) h =
-    item_first (first_block bare (told_block b)) (flat_map whole_block (told_blocks bs)) (first_has bare b (first_of_both (has_edit b) (list_all has_edit bs) h))
+    item_first (first_block bare (encoded_block b)) (flat_map whole_block (encoded_blocks bs)) (first_has bare b (first_of_both (has_edit b) (list_all has_edit bs) h))
   where
     first_of_both : (a b : Bool) → (a && b) ≡ true → a ≡ true
     first_of_both true b h = refl
@@ -125,5 +125,5 @@ bytes_tell schema shared0 permitted0 shared1 permitted1 =
     let last = view_part schema shared0 permitted0 shared1 permitted1 in
     let here = blocks_tell true first (patch_has schema shared0 shared1) in
     let there = blocks_tell false last (patch_has schema (apply_edits first permitted0) permitted1) in
-    no_length (block_bytes (told_blocks first) true ++ block_bytes (told_blocks last) false)
-    ∙ ap not (either_has (block_bytes (told_blocks first) true) (block_bytes (told_blocks last) false) ∙ rw (here, there) refl)
+    no_length (block_bytes (encoded_blocks first) true ++ block_bytes (encoded_blocks last) false)
+    ∙ ap not (either_has (block_bytes (encoded_blocks first) true) (block_bytes (encoded_blocks last) false) ∙ rw (here, there) refl)

@@ -8,7 +8,7 @@ use Rattle.state_model.specs.Rows.{root_alone}
 use Rattle.state_model.specs.Reached.{freed}
 use Rattle.state_model.specs.Shown.{shared}
 use Rattle.wire_model.specs.declared.op.Block.{Block}
-use Rattle.wire_model.specs.Edits.{EditBlock, told_block, told_blocks}
+use Rattle.wire_model.specs.Edits.{EditBlock, encoded_block, encoded_blocks}
 use Rattle.wire_model.specs.Effect.{apply_edits}
 use Rattle.wire_model.specs.Frame.{shared_part, view_part}
 use Rattle.wire_model.specs.Grammar.{ReadBlock, read_blocks}
@@ -44,11 +44,11 @@ both_parts (b ∷ bs) second =
 
 -- the bytes between two ticks are those of the frame's operations
 between_bytes : (schema : Schema) (old new : Moment) → bytes_between schema old new
-    ≡ block_bytes (told_blocks (frame_edits schema old new)) (is_any (told_blocks (shared_part schema (shared schema old.rows) (shared schema new.rows))))
+    ≡ block_bytes (encoded_blocks (frame_edits schema old new)) (is_any (encoded_blocks (shared_part schema (shared schema old.rows) (shared schema new.rows))))
 between_bytes schema old new =
     let first = shared_part schema (shared schema old.rows) (shared schema new.rows) in
     let second = view_part schema (shared schema old.rows) (view_at schema old) (shared schema new.rows) (view_at schema new) in
-    both_parts (told_blocks first) (told_blocks second) ∙ ap (λ bs. block_bytes bs (is_any (told_blocks first))) (sym (map-append told_block first second))
+    both_parts (encoded_blocks first) (encoded_blocks second) ∙ ap (λ bs. block_bytes bs (is_any (encoded_blocks first))) (sym (map-append encoded_block first second))
 
 -- ---- one frame
 
@@ -65,11 +65,11 @@ run_found schema old new bare read f is = by (frame_edits schema old new) refl w
 
 pub frame_decodes : FrameDecodes
 frame_decodes schema old new kept f old_bytes new_bytes =
-    let bare = is_any (told_blocks (shared_part schema (shared schema old.rows) (shared schema new.rows))) in
+    let bare = is_any (encoded_blocks (shared_part schema (shared schema old.rows) (shared schema new.rows))) in
     let view = view_at schema old in
-    let again = blocks_read_again schema view (told_blocks (frame_edits schema old new)) bare (frame_writable schema old new kept f old_bytes new_bytes) (frame_fits schema old new kept f old_bytes new_bytes) in
-    let read = subst (λ es. ReadAs (read_blocks schema view (block_bytes (told_blocks (frame_edits schema old new)) bare)) (found_blocks bare es)) (frame_means schema old new kept f old_bytes new_bytes) again in
-    let readings = read_blocks schema view (block_bytes (told_blocks (frame_edits schema old new)) bare) in
+    let again = blocks_read_again schema view (encoded_blocks (frame_edits schema old new)) bare (frame_writable schema old new kept f old_bytes new_bytes) (frame_fits schema old new kept f old_bytes new_bytes) in
+    let read = subst (λ es. ReadAs (read_blocks schema view (block_bytes (encoded_blocks (frame_edits schema old new)) bare)) (found_blocks bare es)) (frame_means schema old new kept f old_bytes new_bytes) again in
+    let readings = read_blocks schema view (block_bytes (encoded_blocks (frame_edits schema old new)) bare) in
     let run = run_found schema old new bare readings.blocks f read.blocks in
     let done : ended_by readings.fault (run_blocks readings.blocks view) ≡ Ok (freed (apply_edits (frame_edits schema old new) view)) = rw (read.fault, run) refl in
     ap (λ bytes. decoded schema bytes view) (between_bytes schema old new) ∙ (done ∙ ap Ok (frame_edits_lead schema old new f))

@@ -11,7 +11,7 @@ use Rattle.state_model.specs.declared.row.SetItem.{SetItem}
 use Rattle.state_model.specs.Places.{row_class}
 use Rattle.wire_model.specs.declared.op.OpKey.{OpKey}
 use Rattle.wire_model.specs.declared.op.OpKey.TheVariants.{Field, Item, Named}
-use Rattle.wire_model.specs.Edits.{Scalar, AWhole, AText, ATruth, Carried, Plain, Linked, Edit, Add, Replace, DeleteAdd, Delete, Clear, AddByRef, DeleteByRef, scalar_value, carried_value, told_link, told_value, told}
+use Rattle.wire_model.specs.Edits.{Scalar, AWhole, AText, ATruth, Carried, Plain, Linked, Edit, Add, Replace, DeleteAdd, Delete, Clear, AddByRef, DeleteByRef, scalar_value, carried_value, encoded_link, encoded_value, encoded}
 use Rattle.wire_model.specs.Effect.{Body, Fields, Items, Slots, Elements, closed, effect, edited_row, put_named, put_value, put_element, without_key}
 use Rattle.wire_laws.proofs.EditSteps.{edited_keeps, all-filter, all-drop_link}
 use Rattle.wire_laws.proofs.EditedPlaces.{all-put, all-set, all-put_slot, all-add_slot, all-push_link}
@@ -27,13 +27,13 @@ scalar_counted (AText t) = refl
 scalar_counted (ATruth b) = refl
 
 -- a link that is told with bytes is one
-link_counted : (adds : Bool) (n : ℕ) (class : Option ℕ) → is_carried (told_link adds n class) ≡ true → is_count n ≡ true
+link_counted : (adds : Bool) (n : ℕ) (class : Option ℕ) → is_carried (encoded_link adds n class) ≡ true → is_count n ≡ true
 link_counted adds n None h = h
 link_counted true n (Some class) h = (and_parts (is_count n) (is_count class) h).0
 link_counted false n (Some class) h = (and_parts (is_count n) true h).0
 
 -- so is a link that is carried
-carried_counted : (adds : Bool) (c : Carried) → is_carried (told_value adds c) ≡ true → is_counted (carried_value c) ≡ true
+carried_counted : (adds : Bool) (c : Carried) → is_carried (encoded_value adds c) ≡ true → is_counted (carried_value c) ≡ true
 carried_counted adds (Plain k s) h = scalar_counted s
 carried_counted adds (Linked n empty) h = link_counted adds n (row_class empty) h
 
@@ -71,8 +71,8 @@ element_put n v items h a = all-put (λ (i : SetItem). i.number) element_counted
 -- ---- operations
 
 -- what an operation that has bytes puts is counted
-put_counted : (adds : Bool) (c : Carried) (a b : Bool) → (a && (is_carried (told_value adds c) && b)) ≡ true → is_counted (carried_value c) ≡ true
-put_counted adds c a b h = carried_counted adds c (and_parts (is_carried (told_value adds c)) b (and_parts a (is_carried (told_value adds c) && b) h).1).0
+put_counted : (adds : Bool) (c : Carried) (a b : Bool) → (a && (is_carried (encoded_value adds c) && b)) ≡ true → is_counted (carried_value c) ≡ true
+put_counted adds c a b h = carried_counted adds c (and_parts (is_carried (encoded_value adds c)) b (and_parts a (is_carried (encoded_value adds c) && b) h).1).0
 
 -- the place of an operation that has bytes has bytes
 placed : (k : OpKey) (b : Bool) → (is_place k && b) ≡ true → is_place k ≡ true
@@ -80,7 +80,7 @@ placed k b h = (and_parts (is_place k) b h).0
 
 -- an operation that has bytes
 abbrev pub has_bytes : Edit → Bool
-has_bytes e = is_writable_op (told e)
+has_bytes e = is_writable_op (encoded e)
 
 -- an operation that has bytes leaves numbers that have bytes
 numbers_effect : (e : Edit) (b : Body) → has_bytes e ≡ true → has_numbers (closed b) ≡ true → has_numbers (closed (effect e b)) ≡ true
@@ -97,7 +97,7 @@ numbers_effect (Add (Item at) v) (Slots home slots) h a = all-add_slot is_counte
 numbers_effect (Replace (Item at) v) (Slots home slots) h a = all-put_slot is_counted at (carried_value v) slots (put_counted false v (is_count at && true) _ h) a
 numbers_effect (DeleteAdd (Item at) v) (Slots home slots) h a = all-put_slot is_counted at (carried_value v) slots (put_counted true v (is_count at) _ h) a
 numbers_effect (Delete (Item at)) (Slots home slots) h a = all-set is_counted slots at None refl a
-numbers_effect (AddByRef v) (Slots home slots) h a = all-push_link is_counted (carried_value v) slots (put_counted true v (is_instance (told_value true v)) _ h) a
+numbers_effect (AddByRef v) (Slots home slots) h a = all-push_link is_counted (carried_value v) slots (put_counted true v (is_instance (encoded_value true v)) _ h) a
 numbers_effect (DeleteByRef n) (Slots home slots) h a = all-drop_link is_counted n slots a
 numbers_effect Clear (Slots home slots) h a = refl
 numbers_effect (Add (Item n) v) (Elements home items) h a = element_put n (carried_value v) items (placed (Item n) _ h) a
@@ -108,5 +108,5 @@ numbers_effect Clear (Elements home items) h a = refl
 numbers_effect e b h a = a
 
 -- operations that have bytes leave numbers that have bytes
-pub edited_numbers : (es : List Edit) (r : Row) → list_all is_writable_op (map told es) ≡ true → has_numbers r ≡ true → has_numbers (edited_row es r) ≡ true
-edited_numbers es r h a = edited_keeps (λ x. has_numbers x ≡ true) has_bytes numbers_effect es r (sym (list_all-map is_writable_op told es) ∙ h) a
+pub edited_numbers : (es : List Edit) (r : Row) → list_all is_writable_op (map encoded es) ≡ true → has_numbers r ≡ true → has_numbers (edited_row es r) ≡ true
+edited_numbers es r h a = edited_keeps (λ x. has_numbers x ≡ true) has_bytes numbers_effect es r (sym (list_all-map is_writable_op encoded es) ∙ h) a

@@ -1,6 +1,7 @@
 -- The two parts of a frame: the blocks of each fit the rows that it leads to, and are read against rows known as what they are there.
 use Rattle.std.proofs.Common.{◌≡◌, ℕ, true, List, [], Some, sym, ◌∙◌}
 use Rattle.std.specs.List.{AllByRecursion as Each}
+use Rattle.std.proofs.lemmas.Bool.{and_parts}
 use Rattle.lists.specs.Rising.{RisesFrom}
 use Rattle.schema_model.specs.Classes.{Schema, is_kept}
 use Rattle.schema_model.specs.declared.place.Pair.{Pair}
@@ -15,26 +16,27 @@ use Rattle.state_laws.proofs.PermittedLaws.{permitted_rises}
 use Rattle.state_laws.proofs.RowsOf.{rows_rise, permitted_rows_of}
 use Rattle.state_laws.proofs.SharedWithin.{shared_within}
 use Rattle.wire_model.specs.Effect.{apply_edits}
-use Rattle.wire_model.specs.Patch.{kind_in}
+use Rattle.wire_model.specs.Patch.{kind_in, is_short, are_short}
 use Rattle.wire_laws.specs.PatchLaw.{Patchable}
 use Rattle.wire_laws.specs.FrameLaw.{Moment, view_at, Follows}
 use Rattle.wire_laws.proofs.KindLaws.{kind_emptied, kind_of}
 use Rattle.wire_laws.proofs.StateFrames.{rows_of_sound, agreeing_kind, left_patchable}
-use Rattle.wire_laws.proofs.ToldValues.{Knows}
-use Rattle.wire_laws.proofs.ToldKnown.{knows_first, is_live-kinds_of}
+use Rattle.wire_laws.proofs.EncodedValues.{Knows}
+use Rattle.wire_laws.proofs.EncodedKnown.{knows_first, is_live-kinds_of}
 use Rattle.state_model.specs.Spelled.{are_spelled}
 use Rattle.byte_laws.specs.BytesLaw.{shared_blocks, view_blocks}
-use Rattle.byte_laws.proofs.SpelledRows.{EachSpelled, each_spelled, has_counts}
+use Rattle.byte_laws.proofs.SpelledRows.{EachSpelled, each_spelled, has_numbers, has_counts}
 use Rattle.byte_laws.proofs.PatchBlocks.{BlockFits, patch_fits}
 use Rattle.byte_laws.proofs.KnownBlocks.{known_past, left_lives, knows_past}
-use Rattle.byte_laws.proofs.SpelledViews.{view_spelled, spelled_counts, shared_array}
+use Rattle.byte_laws.proofs.SpelledViews.{view_spelled, spelled_short, each_short, spelled_counts, shared_array}
 use Rattle.byte_laws.proofs.LeftCounts.{Counted, patch_counted}
 
 -- the rows known behind the shared part
 abbrev pub known_between : Schema → Moment → Moment → List RowEntry
 known_between schema old new = known_past (shared_blocks schema old new) (kinds_of (view_at schema old))
 
--- both parts fit the rows that they lead to, and each is read against rows that are known as what they are there: those that it is from are known
+-- both parts fit the rows that they lead to, and each is read against rows that are known as what they are there: those that it is from are known;
+-- the rows that each is from, and those that it leads to, are short
 pub record Parts (schema : Schema) (old new : Moment) : Type 0 where
   pub shared_rows : are_rows_of schema (shared schema new.rows) ≡ true
   pub view_rows : are_rows_of schema (view_at schema new) ≡ true
@@ -44,6 +46,10 @@ pub record Parts (schema : Schema) (old new : Moment) : Type 0 where
   pub view_knows : Knows (view_at schema new) (known_between schema old new)
   pub shared_known : (n : ℕ) → is_live (shared schema old.rows) n ≡ true → is_live (kinds_of (view_at schema old)) n ≡ true
   pub view_known : (n : ℕ) → is_live (apply_edits (shared_blocks schema old new) (view_at schema old)) n ≡ true → is_live (known_between schema old new) n ≡ true
+  pub old_shared_short : are_short schema (shared schema old.rows) ≡ true
+  pub new_shared_short : are_short schema (shared schema new.rows) ≡ true
+  pub left_short : are_short schema (apply_edits (shared_blocks schema old new) (view_at schema old)) ≡ true
+  pub view_short : are_short schema (view_at schema new) ≡ true
 
 -- states that follow one another, and whose rows have bytes
 module _ (schema : Schema) (old new : Moment) (kept : is_kept schema ≡ true) (f : Follows schema old.rows new.rows) (old_bytes : are_spelled old.rows ≡ true) (new_bytes : are_spelled new.rows ≡ true) where
@@ -70,6 +76,10 @@ module _ (schema : Schema) (old new : Moment) (kept : is_kept schema ≡ true) (
   -- and each of the new one
   new_spelled : (M : List Pair) → EachSpelled (permitted schema new.rows M)
   new_spelled M = view_spelled schema new.rows M new_rises (each_spelled new.rows new_bytes)
+
+  -- each view of the new state is short
+  new_short : (M : List Pair) → are_short schema (permitted schema new.rows M) ≡ true
+  new_short M = each_short schema (permitted schema new.rows M) (permitted_rises schema new.rows M new_rises) (λ n r is. spelled_short schema r (new_spelled M n r is).1)
 
   -- views of the two states have rows of the same kinds
   kinds_agree : (M N : List Pair) (n : ℕ) (a b : Row) → row_at (permitted schema old.rows M) n ≡ Some a → row_at (permitted schema new.rows N) n ≡ Some b → emptied a ≡ emptied b
@@ -129,4 +139,11 @@ module _ (schema : Schema) (old new : Moment) (kept : is_kept schema ≡ true) (
         (knows_first (view_at schema old) (view_at schema new) (same_kinds old.members new.members));
     shared_known = shared_there;
     view_known = left_lives (shared_blocks schema old new) (view_at schema old) (kinds_of (view_at schema old)) (λ n live. is_live-kinds_of (view_at schema old) n ∙ live);
+    old_shared_short =
+        each_short schema (shared schema old.rows) (permitted_rises schema old.rows [] old_rises) (λ n r is. spelled_short schema r (old_spelled [] n r is).1);
+    new_shared_short = new_short [];
+    left_short =
+        each_short schema (apply_edits (shared_blocks schema old new) (view_at schema old)) left_counted.rises
+        (λ n r is. (and_parts (is_short schema r) (has_numbers r) (left_counted.counts n r is)).0);
+    view_short = new_short new.members;
   }

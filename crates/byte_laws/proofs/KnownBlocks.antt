@@ -18,16 +18,16 @@ use Rattle.state_model.specs.Sound.{are_rows_of, fits_place}
 use Rattle.state_laws.proofs.Numbers.{at_live, live_at, live_row, among_both}
 use Rattle.state_laws.proofs.Fitting.{fits_live}
 use Rattle.wire_model.specs.declared.op.OpKey.TheVariants as key
-use Rattle.wire_model.specs.Edits.{Carried, Edit, Add, Replace, DeleteAdd, Delete, Clear, AddByRef, DeleteByRef, EditBlock, told, told_blocks}
+use Rattle.wire_model.specs.Edits.{Carried, Edit, Add, Replace, DeleteAdd, Delete, Clear, AddByRef, DeleteByRef, EditBlock, encoded, encoded_blocks}
 use Rattle.wire_model.specs.Effect.{carried_by, with_named, with_edits, edited_row, apply_block, apply_edits}
 use Rattle.wire_model.specs.Grammar.{wants_at}
 use Rattle.wire_model.specs.Patch.{kind_in, carried, linked_number, named_in}
 use Rattle.wire_model.specs.Resolved.{holder_kind, resolved_ops, known_behind, resolved_blocks}
 use Rattle.wire_laws.proofs.Bools.{or-none, or_moved, in_either}
 use Rattle.wire_laws.proofs.LinkedRows.{CarriesKind, CarriesKinds, with_carried, carried_lives, is_live-put_row}
-use Rattle.wire_laws.proofs.ToldValues.{Knows}
-use Rattle.wire_laws.proofs.ToldKnown.{known_with, knows_behind, lives_behind}
-use Rattle.wire_laws.proofs.ToldBlocks.{Follows, ops_mean, or_wider}
+use Rattle.wire_laws.proofs.EncodedValues.{Knows}
+use Rattle.wire_laws.proofs.EncodedKnown.{known_with, knows_behind, lives_behind}
+use Rattle.wire_laws.proofs.EncodedBlocks.{Follows, ops_mean, or_wider}
 use Rattle.block_laws.specs.Fitting.{OpsFit, BlocksFit}
 use Rattle.byte_laws.proofs.EditFits.{Puts, EditFits}
 use Rattle.byte_laws.proofs.ReadEdits.{edits_read}
@@ -126,36 +126,36 @@ module _ (schema : Schema) (new : List RowEntry) (rows : are_rows_of schema new 
 
   -- the operations of a block that fits are read against rows in which its holder is known, and mean what they were
   block_reads : (known : List RowEntry) (b : EditBlock) → Knows new known → is_live known b.holder ≡ true → BlockFits schema new b
-      → OpsFit schema (holder_kind known b.holder) known (map told b.edits)
-      × (resolved_ops schema (holder_kind known b.holder) known (map told b.edits) ≡ b.edits)
-      × (known_behind schema (holder_kind known b.holder) known (map told b.edits) ≡ known_with b.edits known)
+      → OpsFit schema (holder_kind known b.holder) known (map encoded b.edits)
+      × (resolved_ops schema (holder_kind known b.holder) known (map encoded b.edits) ≡ b.edits)
+      × (known_behind schema (holder_kind known b.holder) known (map encoded b.edits) ≡ known_with b.edits known)
   block_reads known b k there f =
       let holder = kind_in new b.holder in
       let is = sym (holder_is known b.holder k there f.live) in
       let carries = edits_carry schema new new (λ n live. refl) holder b.edits f.edits in
       let ops = ops_mean schema new holder b.edits known k carries f.mean in (
-        subst (λ h. OpsFit schema h known (map told b.edits)) is (edits_read schema new holder rows b.edits known k carries f.mean f.edits),
-        subst (λ h. resolved_ops schema h known (map told b.edits) ≡ b.edits) is ops.0,
-        subst (λ h. known_behind schema h known (map told b.edits) ≡ known_with b.edits known) is ops.1,
+        subst (λ h. OpsFit schema h known (map encoded b.edits)) is (edits_read schema new holder rows b.edits known k carries f.mean f.edits),
+        subst (λ h. resolved_ops schema h known (map encoded b.edits) ≡ b.edits) is ops.0,
+        subst (λ h. known_behind schema h known (map encoded b.edits) ≡ known_with b.edits known) is ops.1,
       )
 
   -- ---- blocks
 
   -- blocks that fit are read before others, where each holder is known or named before and the others are read behind them
   pub front_fits : (bs cs : List EditBlock) (known : List RowEntry) (there : ℕ → Bool) → Knows new known → ((n : ℕ) → there n ≡ true → is_live known n ≡ true) → Follows there bs
-      → Each (BlockFits schema new) bs → BlocksFit schema (known_past bs known) (told_blocks cs) → BlocksFit schema known (told_blocks (bs ++ cs))
+      → Each (BlockFits schema new) bs → BlocksFit schema (known_past bs known) (encoded_blocks cs) → BlocksFit schema known (encoded_blocks (bs ++ cs))
   front_fits [] cs known there k lives f fit rest = rest
   front_fits (b ∷ bs) cs known there k lives f fit rest =
       let read = block_reads known b k (lives b.holder f.0) fit.0 in
       let behind = front_fits bs cs (known_with b.edits known) (λ n. there n || is_among n (named_in b.edits)) (past_knows known b k fit.0) (past_lives b known there lives) f.1 fit.1 rest in
-      (live_there known b.holder (lives b.holder f.0), (read.0, subst (λ rows. BlocksFit schema rows (told_blocks (bs ++ cs))) (sym read.2) behind))
+      (live_there known b.holder (lives b.holder f.0), (read.0, subst (λ rows. BlocksFit schema rows (encoded_blocks (bs ++ cs))) (sym read.2) behind))
 
   -- and they mean again what they were
   pub front_means : (bs cs : List EditBlock) (known : List RowEntry) (there : ℕ → Bool) → Knows new known → ((n : ℕ) → there n ≡ true → is_live known n ≡ true) → Follows there bs
-      → Each (BlockFits schema new) bs → resolved_blocks schema known (told_blocks (bs ++ cs)) ≡ bs ++ resolved_blocks schema (known_past bs known) (told_blocks cs)
+      → Each (BlockFits schema new) bs → resolved_blocks schema known (encoded_blocks (bs ++ cs)) ≡ bs ++ resolved_blocks schema (known_past bs known) (encoded_blocks cs)
   front_means [] cs known there k lives f fit = refl
   front_means (b ∷ bs) cs known there k lives f fit =
       let read = block_reads known b k (lives b.holder f.0) fit.0 in
       let behind = front_means bs cs (known_with b.edits known) (λ n. there n || is_among n (named_in b.edits)) (past_knows known b k fit.0) (past_lives b known there lives) f.1 fit.1 in
-      ap (λ es. block_on b.holder es ∷ resolved_blocks schema (known_behind schema (holder_kind known b.holder) known (map told b.edits)) (told_blocks (bs ++ cs))) read.1
-      ∙ (ap (λ rows. b ∷ resolved_blocks schema rows (told_blocks (bs ++ cs))) read.2 ∙ ap (λ xs. b ∷ xs) behind)
+      ap (λ es. block_on b.holder es ∷ resolved_blocks schema (known_behind schema (holder_kind known b.holder) known (map encoded b.edits)) (encoded_blocks (bs ++ cs))) read.1
+      ∙ (ap (λ rows. b ∷ resolved_blocks schema rows (encoded_blocks (bs ++ cs))) read.2 ∙ ap (λ xs. b ∷ xs) behind)

@@ -18,7 +18,7 @@ use Rattle.state_laws.proofs.Numbers.{live_at, at_live}
 use Rattle.state_laws.proofs.RowsOf.{rows_rise}
 use Rattle.wire_model.specs.Edits.{Edit, EditBlock}
 use Rattle.wire_model.specs.Effect.{apply_block, apply_edits, edited_row, with_named, with_edits}
-use Rattle.wire_model.specs.Patch.{named_in, named_by_blocks, kind_in, row_edits, whole_edits, block_of, common_block, common_blocks, new_blocks, patch_edits}
+use Rattle.wire_model.specs.Patch.{named_in, named_by_blocks, kind_in, row_edits, whole_edits, block_of, common_block, common_blocks, new_blocks, patch_edits, is_short}
 use Rattle.wire_laws.proofs.CommonPhase.{AreAmong, blocks_for, fold-append_blocks}
 use Rattle.wire_laws.proofs.EditedForm.{edited_kind}
 use Rattle.wire_laws.proofs.FormedRows.{rows_formed}
@@ -27,7 +27,7 @@ use Rattle.wire_laws.proofs.KindLaws.{kind_of}
 use Rattle.wire_laws.proofs.Leads.{among_self}
 use Rattle.wire_laws.proofs.LinkedRows.{CarriesKinds, named_rows, row_at-put_row}
 use Rattle.wire_laws.proofs.OneBlock.{block_rises}
-use Rattle.byte_laws.proofs.SpelledRows.{EachSpelled, is_short, has_numbers, has_counts}
+use Rattle.byte_laws.proofs.SpelledRows.{EachSpelled, has_numbers, has_counts}
 use Rattle.byte_laws.proofs.RowFits.{emptied_counts}
 use Rattle.byte_laws.proofs.WritableEdits.{edits_writable}
 use Rattle.byte_laws.proofs.PatchBlocks.{BlockFits, block_on, whole_block, common_block_fits, new_each}

@@ -12,12 +12,12 @@ use Rattle.state_model.specs.Places.{same_kind}
 use Rattle.state_model.specs.Sound.{are_rows_of}
 use Rattle.state_laws.proofs.Numbers.{live_at}
 use Rattle.state_laws.proofs.RowsOf.{rows_rise, rows_fit}
-use Rattle.wire_model.specs.Edits.{Edit, EditBlock, told, told_block, told_blocks}
+use Rattle.wire_model.specs.Edits.{Edit, EditBlock, encoded, encoded_block, encoded_blocks}
 use Rattle.wire_model.specs.Patch.{named_in, named_by_blocks, kind_in, row_edits, whole_edits, block_of, common_block, common_blocks, next_named, new_edits, new_blocks, patch_edits}
 use Rattle.wire_laws.proofs.CommonPhase.{AreAmong, blocks_for}
 use Rattle.wire_laws.proofs.KindLaws.{kind_of}
 use Rattle.wire_laws.proofs.Leads.{among_self}
-use Rattle.wire_laws.proofs.ToldEdits.{EditsMean, row_means, whole_means}
+use Rattle.wire_laws.proofs.EncodedEdits.{EditsMean, row_means, whole_means}
 use Rattle.block_laws.specs.Writable.{is_count, is_writable_op, is_writable, are_writable}
 use Rattle.byte_laws.proofs.SpelledRows.{EachSpelled, has_counts}
 use Rattle.byte_laws.proofs.EditFits.{EditFits, Each-append}
@@ -118,9 +118,9 @@ module _ (schema : Schema) (new : List RowEntry) (kept : is_kept schema ≡ true
 
 -- blocks that fit have bytes, where those behind them do
 pub blocks_writable : (schema : Schema) (new : List RowEntry) → is_kept schema ≡ true → are_rows_of schema new ≡ true → (bs cs : List EditBlock) → Each (BlockFits schema new) bs
-    → are_writable (told_blocks cs) ≡ true → are_writable (told_blocks (bs ++ cs)) ≡ true
+    → are_writable (encoded_blocks cs) ≡ true → are_writable (encoded_blocks (bs ++ cs)) ≡ true
 blocks_writable schema new kept rows [] cs f h = h
 blocks_writable schema new kept rows (b ∷ bs) cs f h =
-    and_from (is_writable (told_block b)) (are_writable (told_blocks (bs ++ cs)))
-    (and_from (is_count b.holder) (list_all is_writable_op (map told b.edits)) f.0.small (edits_writable schema new (kind_in new b.holder) kept rows b.edits f.0.edits))
+    and_from (is_writable (encoded_block b)) (are_writable (encoded_blocks (bs ++ cs)))
+    (and_from (is_count b.holder) (list_all is_writable_op (map encoded b.edits)) f.0.small (edits_writable schema new (kind_in new b.holder) kept rows b.edits f.0.edits))
     (blocks_writable schema new kept rows bs cs f.1 h)

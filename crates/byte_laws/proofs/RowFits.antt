@@ -28,7 +28,7 @@ use Rattle.wire_model.specs.Patch.{place_edit, field_value, map_item, item_value
 use Rattle.wire_laws.proofs.KindLaws.{home_is}
 use Rattle.wire_laws.proofs.NamedNumbers.{emptied_kind}
 use Rattle.wire_laws.proofs.EditedPlaces.{all-slice_get}
-use Rattle.wire_laws.proofs.ToldEdits.{found_passes}
+use Rattle.wire_laws.proofs.EncodedEdits.{found_passes}
 use Rattle.block_laws.specs.Writable.{is_place, is_count}
 use Rattle.state_model.specs.Spelled.{is_spelled_key, is_spelled_value, is_spelled_row}
 use Rattle.byte_laws.proofs.SpelledRows.{is_counted, has_counts, wants_small, fits_some, items_wanted}

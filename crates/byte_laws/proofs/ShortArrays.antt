@@ -11,13 +11,12 @@ use Rattle.state_model.specs.Rows.{emptied}
 use Rattle.state_model.specs.Places.{is_filtered, same_kind}
 use Rattle.wire_model.specs.Edits.{Edit}
 use Rattle.wire_model.specs.Effect.{edited_row}
-use Rattle.wire_model.specs.Patch.{row_edits, whole_edits, ref_edits, slot_edits}
+use Rattle.wire_model.specs.Patch.{row_edits, whole_edits, ref_edits, slot_edits, is_short}
 use Rattle.wire_laws.specs.PatchLaw.{SameKeys}
 use Rattle.wire_laws.proofs.Forms.{IsFormed}
 use Rattle.wire_laws.proofs.EditSteps.{closed_opened}
 use Rattle.wire_laws.proofs.EditedForm.{edited_kind}
 use Rattle.wire_laws.proofs.RowLaw.{row_law, whole_law}
-use Rattle.byte_laws.proofs.SpelledRows.{is_short}
 
 -- a row is an array that goes by position
 abbrev pub by_position : Schema → Row → Bool

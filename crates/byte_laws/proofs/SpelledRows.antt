@@ -1,11 +1,12 @@
 -- Rows whose numbers, keys and texts have bytes: what is known of each, and that the places of a schema within its limits have numbers below 63.
-use Rattle.std.proofs.Common.{◌≡◌, ℕ, ◌^◌, ◌<◌, ◌≤◌, Bool, true, false, ◌&&◌, ◌||◌, List, [], length, Option, Some, None, refl, subst, arith}
+use Rattle.std.proofs.Common.{◌≡◌, ℕ, ◌<◌, ◌≤◌, Bool, true, false, ◌&&◌, List, [], length, Option, Some, None, refl, subst, arith}
 use Rattle.std.specs.Prelude.{is_some, option_and_then, nat_lt, nat_le, slice_get}
 use Rattle.std.specs.List.{list_all}
 use Rattle.std.specs.Option.{option_map, option_map_or}
 use Rattle.std.proofs.lemmas.Bool.{and_parts}
 use Rattle.std.proofs.lemmas.Bool.Decides.{nat_tests}
 use Rattle.std.proofs.lemmas.Option.{slice_get_within}
+use Rattle.wire_model.specs.Patch.{is_short}
 use Rattle.schema_model.specs.Classes.{Schema, Declared, is_kept, parents_earlier, item_in_range, item_of, fields_of, fields_from, home_field}
 use Rattle.schema_model.specs.declared.class.Class.{Class}
 use Rattle.schema_model.specs.declared.class.FieldDecl.{FieldDecl}
@@ -21,7 +22,7 @@ use Rattle.state_model.specs.declared.row.SetItem.{SetItem}
 use Rattle.state_model.specs.Rows.{number_of, row_at}
 use Rattle.state_model.specs.declared.place.Wanted.{Wanted}
 use Rattle.state_model.specs.declared.place.Wanted.TheVariants.{Item as AnItem}
-use Rattle.state_model.specs.Places.{wanted_of, field_wants, item_wants, is_filtered, row_home, same_kind, collection_of, empty_collection}
+use Rattle.state_model.specs.Places.{wanted_of, field_wants, item_wants, row_home, same_kind, collection_of, empty_collection}
 use Rattle.state_model.specs.Sound.{fits_place, has_kind}
 use Rattle.state_laws.proofs.Numbers.{entry, row_found}
 use Rattle.state_laws.proofs.Tests.{all-found}
@@ -45,13 +46,6 @@ each_spelled rows h = λ n r is.
 abbrev pub is_counted : Value → Bool
 is_counted (value.Link n) = is_count n
 is_counted v = true
-
--- an array that goes by position is no longer than positions go
-abbrev pub is_short : Schema → Row → Bool
-is_short schema (Struct class fields) = true
-is_short schema (Map home items) = true
-is_short schema (Array home values) = is_filtered schema home || nat_le (length values) (2 ^ 31)
-is_short schema (Set home items) = true
 
 -- the item numbers and the links of an array have bytes
 abbrev pub has_numbers : Row → Bool

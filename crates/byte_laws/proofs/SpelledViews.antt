@@ -7,6 +7,7 @@ use Rattle.std.proofs.lemmas.Bool.Decides.{nat_tests}
 use Rattle.std.proofs.lemmas.List.Elements.{filter_agree}
 use Rattle.std.proofs.lemmas.Option.{same_Some}
 use Rattle.lists.specs.Rising.{RisesFrom}
+use Rattle.wire_model.specs.Patch.{is_short, are_short}
 use Rattle.schema_model.specs.Classes.{Schema, home_field, item_of}
 use Rattle.schema_model.specs.declared.class.FieldDecl.{FieldDecl}
 use Rattle.schema_model.specs.declared.class.Item.{Item}
@@ -25,12 +26,13 @@ use Rattle.state_model.specs.Rows.{number_of, row_at}
 use Rattle.state_model.specs.Places.{is_filtered, instance_class}
 use Rattle.state_model.specs.Shown.{item_shown, declared_item_shown, shows_field, shows_item, shown_row, permitted, shared}
 use Rattle.state_laws.proofs.Passing.{length-filter_most}
-use Rattle.state_laws.proofs.Tests.{list_all_filtered, list_all_wider}
+use Rattle.state_laws.proofs.Numbers.{found_row}
+use Rattle.state_laws.proofs.Tests.{list_all_filtered, list_all_wider, found-all}
 use Rattle.state_laws.proofs.PermittedLaws.{permitted_from}
 use Rattle.state_laws.proofs.SharedWithin.{shared_within}
 use Rattle.state_model.specs.Spelled.{is_spelled_key, is_spelled_value, is_spelled_row}
 use Rattle.block_laws.specs.Writable.{is_count}
-use Rattle.byte_laws.proofs.SpelledRows.{EachSpelled, is_counted, is_short, has_numbers, has_counts}
+use Rattle.byte_laws.proofs.SpelledRows.{EachSpelled, is_counted, has_numbers, has_counts}
 use Rattle.byte_laws.proofs.ShortArrays.{by_position, SameArray}
 
 -- ---- views have bytes
@@ -73,6 +75,10 @@ spelled_short schema (Struct class fields) h = refl
 spelled_short schema (Map home items) h = refl
 spelled_short schema (Array home values) h = or_right (is_filtered schema home) _ (and_parts (nat_le (length values) (2 ^ 31)) (list_all is_spelled_value values) h).0
 spelled_short schema (Set home items) h = refl
+
+-- rows that rise are short where each of them is
+pub each_short : (schema : Schema) (rows : List RowEntry) → RisesFrom number_of 0 rows → ((n : ℕ) (r : Row) → row_at rows n ≡ Some r → is_short schema r ≡ true) → are_short schema rows ≡ true
+each_short schema rows rises each = found-all number_of (λ (e : RowEntry). is_short schema e.row) 0 rows rises (λ e is. each e.who e.row (found_row rows e.who e is))
 
 -- the numbers of a row that has bytes have bytes
 spelled_numbers : (r : Row) → is_spelled_row r ≡ true → has_numbers r ≡ true

@@ -1,12 +1,13 @@
 -- The laws over bytes: what the bytes of state frames are decoded to.
 use Rattle.std.specs.Prelude.{◌≡◌, ℕ, ◌==◌, true, not, List, [], ◌∷◌, length, Ok}
+use Rattle.wire_model.specs.Patch.{are_short}
 use Rattle.schema_model.specs.Classes.{Schema, is_kept}
 use Rattle.state_model.specs.declared.row.RowEntry.{RowEntry}
 use Rattle.state_model.specs.Rows.{root_alone}
 use Rattle.state_model.specs.Shown.{shared}
 use Rattle.state_model.specs.Sound.{Sound}
 use Rattle.block_laws.specs.Writable.{are_writable}
-use Rattle.wire_model.specs.Edits.{EditBlock, told_blocks}
+use Rattle.wire_model.specs.Edits.{EditBlock, encoded_blocks}
 use Rattle.wire_model.specs.Effect.{apply_edits}
 use Rattle.wire_model.specs.Frame.{state_frame, full_state, shared_part, view_part, has_operation}
 use Rattle.wire_model.specs.Resolved.{applied}
@@ -56,11 +57,15 @@ shared_blocks schema old new = shared_part schema (shared schema old.rows) (shar
 abbrev pub view_blocks : Schema → Moment → Moment → List EditBlock
 view_blocks schema old new = view_part schema (shared schema old.rows) (view_at schema old) (shared schema new.rows) (view_at schema new)
 
--- both parts have bytes, and the shared part as it is told makes of a client's old view what its operations make of it
+-- both parts have bytes, what they lead from and to has short arrays, and the shared part as it is written makes of a client's old view what its operations make of it
 pub record HaveBytes (schema : Schema) (old new : Moment) : Type 0 where
-  pub shared_written : are_writable (told_blocks (shared_blocks schema old new)) ≡ true
-  pub view_written : are_writable (told_blocks (view_blocks schema old new)) ≡ true
-  pub shared_means : applied schema (view_at schema old) (told_blocks (shared_blocks schema old new)) ≡ apply_edits (shared_blocks schema old new) (view_at schema old)
+  pub shared_written : are_writable (encoded_blocks (shared_blocks schema old new)) ≡ true
+  pub view_written : are_writable (encoded_blocks (view_blocks schema old new)) ≡ true
+  pub old_shared_short : are_short schema (shared schema old.rows) ≡ true
+  pub new_shared_short : are_short schema (shared schema new.rows) ≡ true
+  pub left_short : are_short schema (applied schema (view_at schema old) (encoded_blocks (shared_blocks schema old new))) ≡ true
+  pub view_short : are_short schema (view_at schema new) ≡ true
+  pub shared_means : applied schema (view_at schema old) (encoded_blocks (shared_blocks schema old new)) ≡ apply_edits (shared_blocks schema old new) (view_at schema old)
 
 -- so it is of any two ticks of which one may follow the other
 abbrev pub PartsHaveBytes : Type 0

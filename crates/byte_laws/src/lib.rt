@@ -18,8 +18,8 @@ pub fn joined_decodes()
     ensures { JoinedDecodes }
 {}
 
-/// Both parts of a state frame have bytes, and the shared part as it is told makes of a client's old view what its
-/// operations make of it.
+/// Both parts of a state frame have bytes, the rows that they lead from and to have no array that is too long to go by
+/// position, and the shared part as it is written makes of a client's old view what its operations make of it.
 pub fn parts_have_bytes()
     ensures { PartsHaveBytes }
 {}

@@ -38,8 +38,8 @@ use Rattle.wire_laws.specs.PatchLaw.{Patchable}
 use Rattle.wire_laws.proofs.EditedForm.{edited_kind}
 use Rattle.wire_laws.proofs.LinkedRows.{linked_rises, named_rises}
 use Rattle.wire_laws.proofs.OneBlock.{block_rises}
-use Rattle.wire_laws.proofs.ToldBlocks.{applied_leads}
-use Rattle.wire_laws.proofs.ToldKnown.{row_at-kinds_of, with_known, after_carried}
+use Rattle.wire_laws.proofs.EncodedBlocks.{applied_leads}
+use Rattle.wire_laws.proofs.EncodedKnown.{row_at-kinds_of, with_known, after_carried}
 use Rattle.canon_patch.specs.Applying.{meant, with_link, with_links}
 
 -- ---- the kinds of rows

@@ -14,10 +14,10 @@ use Rattle.state_model.specs.declared.place.Wanted.TheVariants.{Item as AnItem}
 use Rattle.state_model.specs.Places.{item_wants}
 use Rattle.state_model.specs.Values.{same_value}
 use Rattle.wire_model.specs.declared.op.Op.{Op}
-use Rattle.wire_model.specs.Edits.{Clear, told}
+use Rattle.wire_model.specs.Edits.{Clear, encoded}
 use Rattle.wire_model.specs.Patch.{drop_edit, gone_of, kept_of, kind_wanted, push_edit, ref_edits, same_values, stands_in}
-use Rattle.canon_patch.specs.ByRef.{after_all, after_first, come_told, gone_told, is_ended, push_told}
-use Rattle.canon_patch.proofs.Told.{carried_by_kind, kind_alone}
+use Rattle.canon_patch.specs.ByRef.{after_all, after_first, come_encoded, gone_encoded, is_ended, push_encoded}
+use Rattle.canon_patch.proofs.Encoded.{carried_by_kind, kind_alone}
 
 -- values begin with two lists, one behind the other
 after_append : (us vs ws : List Value) → after_all us (vs ++ ws) ≡ option_and_then (λ rest. after_all rest ws) (after_all us vs)
@@ -48,53 +48,53 @@ appended : (us vs ws : List Value) → is_ended (option_and_then (λ rest. after
 appended us vs ws = ap is_ended (sym (after_append us vs ws)) ∙ ended_same us (vs ++ ws)
 
 -- the values that went, one by one
-gone_all : (new vs : List Value) → map told (flat_map drop_edit (gone_of new vs)) ≡ flat_map (gone_told new) vs
+gone_all : (new vs : List Value) → map encoded (flat_map drop_edit (gone_of new vs)) ≡ flat_map (gone_encoded new) vs
 gone_all new [] = refl
 gone_all new (v ∷ vs) = by_test (gone_all new vs) (stands_in new v)
   where
-    by_test : map told (flat_map drop_edit (gone_of new vs)) ≡ flat_map (gone_told new) vs → (b : Bool) →
-        map told (flat_map drop_edit (cond (not b) (v ∷ gone_of new vs) (gone_of new vs)))
-        ≡ cond b [] (map told (drop_edit v)) ++ flat_map (gone_told new) vs
+    by_test : map encoded (flat_map drop_edit (gone_of new vs)) ≡ flat_map (gone_encoded new) vs → (b : Bool) →
+        map encoded (flat_map drop_edit (cond (not b) (v ∷ gone_of new vs) (gone_of new vs)))
+        ≡ cond b [] (map encoded (drop_edit v)) ++ flat_map (gone_encoded new) vs
     by_test later true = later
-    by_test later false = map-append told (drop_edit v) (flat_map drop_edit (gone_of new vs)) ∙ ap (λ os. map told (drop_edit v) ++ os) later
+    by_test later false = map-append encoded (drop_edit v) (flat_map drop_edit (gone_of new vs)) ∙ ap (λ os. map encoded (drop_edit v) ++ os) later
 
 -- the values, one by one
-all_told : (schema : Schema) (rows : List RowEntry) (home : Home) (vs : List Value) →
-    map told (map (push_edit schema rows home) vs) ≡ map (push_told rows (kind_alone (item_wants schema home))) vs
-all_told schema rows home [] = refl
-all_told schema rows home (v ∷ vs) = rw (carried_by_kind rows (item_wants schema home) v, all_told schema rows home vs) refl
+all_encoded : (schema : Schema) (rows : List RowEntry) (home : Home) (vs : List Value) →
+    map encoded (map (push_edit schema rows home) vs) ≡ map (push_encoded rows (kind_alone (item_wants schema home))) vs
+all_encoded schema rows home [] = refl
+all_encoded schema rows home (v ∷ vs) = rw (carried_by_kind rows (item_wants schema home) v, all_encoded schema rows home vs) refl
 
 -- the values that came, one by one
-come_all : (rows : List RowEntry) (wanted : Option Wanted) (old vs : List Value) → map (push_told rows wanted) (gone_of old vs) ≡ flat_map (come_told rows wanted old) vs
+come_all : (rows : List RowEntry) (wanted : Option Wanted) (old vs : List Value) → map (push_encoded rows wanted) (gone_of old vs) ≡ flat_map (come_encoded rows wanted old) vs
 come_all rows wanted old [] = refl
 come_all rows wanted old (v ∷ vs) = by_test (come_all rows wanted old vs) (stands_in old v)
   where
-    by_test : map (push_told rows wanted) (gone_of old vs) ≡ flat_map (come_told rows wanted old) vs → (b : Bool) →
-        map (push_told rows wanted) (cond (not b) (v ∷ gone_of old vs) (gone_of old vs))
-        ≡ cond b [] (push_told rows wanted v ∷ []) ++ flat_map (come_told rows wanted old) vs
+    by_test : map (push_encoded rows wanted) (gone_of old vs) ≡ flat_map (come_encoded rows wanted old) vs → (b : Bool) →
+        map (push_encoded rows wanted) (cond (not b) (v ∷ gone_of old vs) (gone_of old vs))
+        ≡ cond b [] (push_encoded rows wanted v ∷ []) ++ flat_map (come_encoded rows wanted old) vs
     by_test later true = later
-    by_test later false = ap (λ os. push_told rows wanted v ∷ os) later
+    by_test later false = ap (λ os. push_encoded rows wanted v ∷ os) later
 
 -- where the new values are the old ones that stay and those that came: those that went, and then those that came
-appended_told : (schema : Schema) (rows : List RowEntry) (home : Home) (old new : List Value) → same_values new (kept_of new old ++ gone_of old new) ≡ true →
-    map told (ref_edits schema rows home old new)
-    ≡ flat_map (gone_told new) old ++ flat_map (come_told rows (kind_alone (item_wants schema home)) old) new
-appended_told schema rows home old new h =
+appended_encoded : (schema : Schema) (rows : List RowEntry) (home : Home) (old new : List Value) → same_values new (kept_of new old ++ gone_of old new) ≡ true →
+    map encoded (ref_edits schema rows home old new)
+    ≡ flat_map (gone_encoded new) old ++ flat_map (come_encoded rows (kind_alone (item_wants schema home)) old) new
+appended_encoded schema rows home old new h =
     let push = push_edit schema rows home in
     let come = gone_of old new in
     let gone = flat_map drop_edit (gone_of new old) in
-    ap (λ b. map told (cond b (gone ++ map push come) (Clear ∷ map push new))) h
-    ∙ (map-append told gone (map push come)
-    ∙ (ap (λ os. os ++ map told (map push come)) (gone_all new old)
-    ∙ ap (λ os. flat_map (gone_told new) old ++ os) (all_told schema rows home come ∙ come_all rows (kind_alone (item_wants schema home)) old new)))
+    ap (λ b. map encoded (cond b (gone ++ map push come) (Clear ∷ map push new))) h
+    ∙ (map-append encoded gone (map push come)
+    ∙ (ap (λ os. os ++ map encoded (map push come)) (gone_all new old)
+    ∙ ap (λ os. flat_map (gone_encoded new) old ++ os) (all_encoded schema rows home come ∙ come_all rows (kind_alone (item_wants schema home)) old new)))
 
 -- else CLEAR, and then all of the new values
-anew_told : (schema : Schema) (rows : List RowEntry) (home : Home) (old new : List Value) → same_values new (kept_of new old ++ gone_of old new) ≡ false →
-    map told (ref_edits schema rows home old new) ≡ told Clear ∷ map (push_told rows (kind_alone (item_wants schema home))) new
-anew_told schema rows home old new h =
+anew_encoded : (schema : Schema) (rows : List RowEntry) (home : Home) (old new : List Value) → same_values new (kept_of new old ++ gone_of old new) ≡ false →
+    map encoded (ref_edits schema rows home old new) ≡ encoded Clear ∷ map (push_encoded rows (kind_alone (item_wants schema home))) new
+anew_encoded schema rows home old new h =
     let push = push_edit schema rows home in
-    ap (λ b. map told (cond b (flat_map drop_edit (gone_of new old) ++ map push (gone_of old new)) (Clear ∷ map push new))) h
-    ∙ ap (λ os. told Clear ∷ os) (all_told schema rows home new)
+    ap (λ b. map encoded (cond b (flat_map drop_edit (gone_of new old) ++ map push (gone_of old new)) (Clear ∷ map push new))) h
+    ∙ ap (λ os. encoded Clear ∷ os) (all_encoded schema rows home new)
 
 -- the test by what is left: nothing fits, or the rest is tried on
 pub appended_none : (us vs ws : List Value) → None ≡ after_all us vs → false ≡ same_values us (vs ++ ws)
@@ -106,22 +106,22 @@ appended_some us vs ws rest h = ap (λ o. is_ended (option_and_then (λ left. af
 -- what was pushed, where the test holds and where it fails
 pub appended_ops : (schema : Schema) (rows : List RowEntry) (home : Home) (old new : List Value) (kind : ScalarKind) (ops0 ops now : List Op) (b : Bool) →
     kind ≡ kind_wanted (item_wants schema home) → b ≡ same_values new (kept_of new old ++ gone_of old new) → b ≡ true →
-    ops ≡ ops0 ++ flat_map (gone_told new) old → now ≡ ops ++ flat_map (come_told rows (Some (AnItem (Scalar kind))) old) new →
-    now ≡ ops0 ++ map told (ref_edits schema rows home old new)
+    ops ≡ ops0 ++ flat_map (gone_encoded new) old → now ≡ ops ++ flat_map (come_encoded rows (Some (AnItem (Scalar kind))) old) new →
+    now ≡ ops0 ++ map encoded (ref_edits schema rows home old new)
 appended_ops schema rows home old new kind ops0 ops now b is_kind test passed gone come =
     let wanted = kind_alone (item_wants schema home) in
-    come ∙ (ap (λ k. ops ++ flat_map (come_told rows (Some (AnItem (Scalar k))) old) new) is_kind
-    ∙ (ap (λ os. os ++ flat_map (come_told rows wanted old) new) gone
-    ∙ (append_assoc ops0 (flat_map (gone_told new) old) (flat_map (come_told rows wanted old) new)
-    ∙ ap (λ os. ops0 ++ os) (sym (appended_told schema rows home old new (sym test ∙ passed))))))
+    come ∙ (ap (λ k. ops ++ flat_map (come_encoded rows (Some (AnItem (Scalar k))) old) new) is_kind
+    ∙ (ap (λ os. os ++ flat_map (come_encoded rows wanted old) new) gone
+    ∙ (append_assoc ops0 (flat_map (gone_encoded new) old) (flat_map (come_encoded rows wanted old) new)
+    ∙ ap (λ os. ops0 ++ os) (sym (appended_encoded schema rows home old new (sym test ∙ passed))))))
 
 pub anew_ops : (schema : Schema) (rows : List RowEntry) (home : Home) (old new : List Value) (kind : ScalarKind) (ops0 ops now : List Op) (b : Bool) →
     kind ≡ kind_wanted (item_wants schema home) → b ≡ same_values new (kept_of new old ++ gone_of old new) → b ≡ false →
-    ops ≡ ops0 ++ told Clear ∷ [] → now ≡ ops ++ map (push_told rows (Some (AnItem (Scalar kind)))) new →
-    now ≡ ops0 ++ map told (ref_edits schema rows home old new)
+    ops ≡ ops0 ++ encoded Clear ∷ [] → now ≡ ops ++ map (push_encoded rows (Some (AnItem (Scalar kind)))) new →
+    now ≡ ops0 ++ map encoded (ref_edits schema rows home old new)
 anew_ops schema rows home old new kind ops0 ops now b is_kind test failed cleared come =
     let wanted = kind_alone (item_wants schema home) in
-    come ∙ (ap (λ k. ops ++ map (push_told rows (Some (AnItem (Scalar k)))) new) is_kind
-    ∙ (ap (λ os. os ++ map (push_told rows wanted) new) cleared
-    ∙ (append_assoc ops0 (told Clear ∷ []) (map (push_told rows wanted) new)
-    ∙ ap (λ os. ops0 ++ os) (sym (anew_told schema rows home old new (sym test ∙ failed))))))
+    come ∙ (ap (λ k. ops ++ map (push_encoded rows (Some (AnItem (Scalar k)))) new) is_kind
+    ∙ (ap (λ os. os ++ map (push_encoded rows wanted) new) cleared
+    ∙ (append_assoc ops0 (encoded Clear ∷ []) (map (push_encoded rows wanted) new)
+    ∙ ap (λ os. ops0 ++ os) (sym (anew_encoded schema rows home old new (sym test ∙ failed))))))

@@ -1,5 +1,7 @@
 pub mod Applying
 pub mod ByRef
+pub mod KindsKept
 pub mod MergeLaws
 pub mod NewRows
-pub mod Told
+pub mod ShortRows
+pub mod Encoded

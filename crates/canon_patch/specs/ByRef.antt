@@ -7,7 +7,7 @@ use Rattle.state_model.specs.declared.place.Wanted.{Wanted}
 use Rattle.state_model.specs.Reached.{is_among}
 use Rattle.state_model.specs.Values.{same_value}
 use Rattle.wire_model.specs.declared.op.Op.{Op}
-use Rattle.wire_model.specs.Edits.{AddByRef, told}
+use Rattle.wire_model.specs.Edits.{AddByRef, encoded}
 use Rattle.wire_model.specs.Patch.{carried, drop_edit, stands_in}
 
 -- the numbers are those to which the values link
@@ -31,13 +31,13 @@ is_ended (Some []) = true
 is_ended (Some (v ∷ vs)) = false
 
 -- DELETE_BY_REFID of a link that went
-abbrev pub gone_told : List Value → Value → List Op
-gone_told others v = if stands_in others v then [] else map told (drop_edit v)
+abbrev pub gone_encoded : List Value → Value → List Op
+gone_encoded others v = if stands_in others v then [] else map encoded (drop_edit v)
 
 -- ADD_BY_REFID of a value
-abbrev pub push_told : List RowEntry → Option Wanted → Value → Op
-push_told rows wanted v = told (AddByRef (carried rows wanted v))
+abbrev pub push_encoded : List RowEntry → Option Wanted → Value → Op
+push_encoded rows wanted v = encoded (AddByRef (carried rows wanted v))
 
 -- ADD_BY_REFID of a value that came
-abbrev pub come_told : List RowEntry → Option Wanted → List Value → Value → List Op
-come_told rows wanted others v = if stands_in others v then [] else push_told rows wanted v ∷ []
+abbrev pub come_encoded : List RowEntry → Option Wanted → List Value → Value → List Op
+come_encoded rows wanted others v = if stands_in others v then [] else push_encoded rows wanted v ∷ []

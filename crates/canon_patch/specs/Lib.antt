@@ -1,6 +1,8 @@
 pub mod Applying
 pub mod ByRef
+pub mod Kinds
 pub mod Merge
 pub mod Names
 pub mod NewRows
-pub mod Told
+pub mod Positions
+pub mod Encoded

@@ -28,10 +28,10 @@ abbrev pub named_by_ops : List Op → List ℕ
 named_by_ops ops = flat_map named_by_op ops
 
 -- the numbers that told blocks name, in order
-abbrev pub named_by_told : List Block → List ℕ
-named_by_told blocks = flat_map (λ (b : Block). named_by_ops b.ops) blocks
+abbrev pub named_by_encoded : List Block → List ℕ
+named_by_encoded blocks = flat_map (λ (b : Block). named_by_ops b.ops) blocks
 
 -- a told block, where it has an operation
-abbrev pub block_told : ℕ → List Op → List Block
-block_told n [] = []
-block_told n (o ∷ os) = record { holder = n; ops = o ∷ os } ∷ []
+abbrev pub block_encoded : ℕ → List Op → List Block
+block_encoded n [] = []
+block_encoded n (o ∷ os) = record { holder = n; ops = o ∷ os } ∷ []

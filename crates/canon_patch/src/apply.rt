@@ -18,7 +18,7 @@ use state_model::{Row, RowEntry, Rows};
 use std::alloc::Global;
 use trees::Tree;
 use wire_model::{Block, Blocks, Ops};
-use wire_ops::holder::Holder;
+use wire_ops::Holder;
 
 /// The rows after blocks: each operation is done to its holder, and the rows that it links to are there,
 /// empty where they weren't. Nothing is freed.
@@ -84,7 +84,7 @@ fn edited(alloc: Global, row: Row, ops: &Ops) -> Result<Row, Memory>
 {
     let mut holder = Holder::open(alloc, row)?;
     for op in ops.as_slice() {
-        holder.apply(alloc, op)?;
+        holder = holder.apply(alloc, op)?;
     }
     holder.close(alloc)
 }

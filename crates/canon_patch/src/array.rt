@@ -1,97 +1,69 @@
 //! The operations on an array: by position, or by reference where it is filtered.
-ghost use Rattle.std.specs.Prelude.{◌≡◌, ◌++◌, ◌&&◌, OnOk, Some, is_some, map, option_copied, slice_get};
-ghost use Rattle.schema_model.specs.Classes.{item_of};
+ghost use Rattle.std.specs.Prelude.{◌≡◌, ◌≤◌, ◌++◌, ◌^◌, IsTrue, OnOk, Some, length, map, option_copied, slice_get};
 ghost use Rattle.schema_model.specs.declared.class.Item.TheVariants.{Scalar};
 ghost use Rattle.state_model.specs.declared.place.Wanted.TheVariants.{Item as AnItem};
-ghost use Rattle.state_model.specs.Places.{instance_class, is_filtered};
-ghost use Rattle.wire_model.specs.Edits.{told};
+ghost use Rattle.wire_model.specs.Edits.{encoded};
 ghost use Rattle.wire_model.specs.Patch.{array_edits, slot_edits};
-ghost use Rattle.canon_patch.specs.Told.{first_told};
+ghost use Rattle.canon_patch.specs.Encoded.{first_encoded};
+ghost use Rattle.canon_patch.specs.Positions.{has_positions};
 
 use crate::by_ref::push_by_ref;
 use crate::place::{kind_wanted, push_place};
-use schema_model::{FieldDecl, Home, Item, Memory, ScalarKind, Schema, Value};
-use state_model::{Rows, Values, is_filtered, item_wants};
-use std::alloc::Global;
+use crate::target::Target;
+use schema_model::{Home, Memory, ScalarKind, Value};
+use state_model::{Values, is_filtered, item_wants};
 use wire_model::{OpKey, Ops};
 
 // The operations on an array.
 pub(crate) fn push_values(
-    alloc: Global,
+    to: &Target<'_>,
     ops: &mut Ops,
-    schema: &Schema,
-    rows: &Rows,
     home: &Home,
     old: &Values,
     new: &Values,
 ) -> Result<(), Memory>
-    ensures { OnOk result (ops.new ≡ ops.old ++ map told (array_edits schema.now rows.now home.now old.now new.now)) }
+    requires { IsTrue (has_positions to.now.schema.now home.now old.now new.now) }
+    ensures { OnOk result (ops.new ≡ ops.old ++ map encoded (array_edits to.now.schema.now to.now.rows.now home.now old.now new.now)) }
 {
-    if is_filtered(schema, *home) {
-        push_by_ref(
-            alloc,
-            ops,
-            schema,
-            rows,
-            *home,
-            old.as_slice(),
-            new.as_slice(),
-        )
+    if is_filtered(to.schema, *home) {
+        push_by_ref(to, ops, *home, old.as_slice(), new.as_slice())
     } else {
-        push_slots(
-            alloc,
-            ops,
-            schema,
-            rows,
-            *home,
-            old.as_slice(),
-            new.as_slice(),
-        )
+        push_slots(to, ops, *home, old.as_slice(), new.as_slice())
     }
 }
 
-// The operations on the positions, rising. No position of 2^32 or more can be told.
-#[tactic(auto, using(crate::proofs::Told::slots_told))]
+// The operations on the positions, rising.
+#[tactic(auto, using(crate::proofs::Encoded::slots_encoded))]
 fn push_slots(
-    alloc: Global,
+    to: &Target<'_>,
     ops: &mut Ops,
-    schema: &Schema,
-    rows: &Rows,
     home: Home,
     old: &[Value],
     new: &[Value],
 ) -> Result<(), Memory>
-    ensures { OnOk result (ops.new ≡ ops.old ++ map told (slot_edits schema.now rows.now home old.now new.now)) }
+    requires old { length old.now ≤ 2 ^ 31 }
+    requires new { length new.now ≤ 2 ^ 31 }
+    ensures { OnOk result (ops.new ≡ ops.old ++ map encoded (slot_edits to.now.schema.now to.now.rows.now home old.now new.now)) }
 {
-    let kind = kind_wanted(item_wants(schema, home));
-    let Ok(count) = u32::try_from(old.len().max(new.len())) else {
-        return Err(Memory);
-    };
-    push_first(alloc, ops, rows, kind, old, new, count)
+    let kind = kind_wanted(item_wants(to.schema, home));
+    let count = old.len().max(new.len()) as u32;
+    push_first(to, ops, kind, old, new, count)
 }
 
 // The operations on the first so many positions.
 fn push_first(
-    alloc: Global,
+    to: &Target<'_>,
     ops: &mut Ops,
-    rows: &Rows,
     kind: ScalarKind,
     old: &[Value],
     new: &[Value],
     count: u32,
 ) -> Result<(), Memory>
-    ensures { OnOk result (ops.new ≡ ops.old ++ first_told rows.now (Some (AnItem (Scalar kind))) old.now new.now count) }
+    ensures { OnOk result (ops.new ≡ ops.old ++ first_encoded to.now.rows.now (Some (AnItem (Scalar kind))) old.now new.now count) }
 {
     for at in 0..count {
-        push_place(
-            alloc,
-            ops,
-            rows,
-            OpKey::Item(at),
-            kind,
-            value_at(old, at),
-            value_at(new, at),
-        )?;
+        let (before, after) = (value_at(old, at), value_at(new, at));
+        push_place(to, ops, OpKey::Item(at), kind, before, after)?;
     }
     Ok(())
 }

@@ -1,17 +1,19 @@
 //! The blocks of a patch: those of the rows in both lists, then the new rows.
-ghost use Rattle.std.specs.Prelude.{◌≡◌, ◌≤◌, ◌++◌, ◌||◌, IfOk, OnOk, map, is_some, length, drop};
+ghost use Rattle.std.specs.Prelude.{◌≡◌, ◌≤◌, ◌++◌, ◌||◌, IfOk, IsTrue, OnOk, map, is_some, length, drop};
 ghost use Rattle.std.specs.Option.{ForSome, option_map};
 ghost use Rattle.state_model.specs.Rows.{numbers_of, row_at};
 ghost use Rattle.state_model.specs.Reached.{is_among};
-ghost use Rattle.wire_model.specs.Edits.{told, told_blocks};
+ghost use Rattle.wire_model.specs.Edits.{encoded, encoded_blocks};
 ghost use Rattle.wire_model.specs.Frame.{patch};
-ghost use Rattle.wire_model.specs.Patch.{common_block, common_blocks, new_blocks, new_edits};
-ghost use Rattle.canon_patch.specs.Names.{block_told};
+ghost use Rattle.wire_model.specs.Patch.{are_short, common_block, common_blocks, is_short, new_blocks, new_edits};
+ghost use Rattle.canon_patch.specs.Kinds.{keeps_kind, kinds_agree};
+ghost use Rattle.canon_patch.specs.Names.{block_encoded};
 ghost use Rattle.canon_patch.specs.NewRows.{next_new};
 
 use crate::marks::add_number;
 use crate::names::{names_in_blocks, push_names};
 use crate::row::{row_ops, whole_ops};
+use crate::target::Target;
 use lists::Seq;
 use plain_rows::NumberSet;
 use schema_model::{Memory, RefNum, Schema};
@@ -20,47 +22,59 @@ use std::alloc::Global;
 use wire_model::{Block, Blocks, Ops};
 
 /// The patch that leads from old rows to new ones: first the blocks of the rows that are in both, rising, then each
-/// new row whole, in the order in which the operations first name them.
+/// new row whole, in the order in which the operations first name them. In both lists an array that goes by position has
+/// at most 2^31 values (`are_short`), and a row that is in both is of one kind (`kinds_agree`).
 ///
-/// It is near-linear in the rows and their places. `Err` is want of memory, or of a number for a position of 2^32
-/// or more in an array.
-#[tactic(auto, using(crate::proofs::Told::patch_told))]
+/// It is near-linear in the rows and their places. `Err` is want of memory.
+#[tactic(auto, using(crate::proofs::Encoded::patch_encoded))]
 pub fn patch(alloc: Global, schema: &Schema, old: &Rows, new: &Rows) -> Result<Blocks, Memory>
+    requires old { IsTrue (are_short schema.now old.now) }
+    requires new { IsTrue (are_short schema.now new.now) }
+    requires kinds { IsTrue (kinds_agree old.now new.now) }
     ensures { IfOk result (λ blocks. blocks ≡ patch schema.now old.now new.now) }
 {
-    let mut blocks = common_blocks(alloc, schema, old, new)?;
+    let to = Target {
+        alloc,
+        schema,
+        rows: new,
+    };
+    let mut blocks = common_blocks(&to, old)?;
     let names = names_in_blocks(alloc, blocks.as_slice())?;
-    push_new_blocks(alloc, &mut blocks, schema, old, new, names)?;
+    push_new_blocks(&to, &mut blocks, old, names)?;
     Ok(blocks)
 }
 
 // The blocks of the numbers in both lists, rising.
-fn common_blocks(alloc: Global, schema: &Schema, old: &Rows, new: &Rows) -> Result<Blocks, Memory>
-    ensures { IfOk result (λ blocks. blocks ≡ told_blocks (common_blocks schema.now old.now new.now)) }
+fn common_blocks(to: &Target<'_>, old: &Rows) -> Result<Blocks, Memory>
+    requires old { IsTrue (are_short to.now.schema.now old.now) }
+    requires new { IsTrue (are_short to.now.schema.now to.now.rows.now) }
+    requires kinds { IsTrue (kinds_agree old.now to.now.rows.now) }
+    ensures { IfOk result (λ blocks. blocks ≡ encoded_blocks (common_blocks to.now.schema.now old.now to.now.rows.now)) }
 {
-    let mut blocks = Seq::new(alloc);
-    for entry in new.as_slice() {
-        push_common(alloc, &mut blocks, schema, old, new, entry)?;
+    let mut blocks = Seq::new(to.alloc);
+    for entry in to.rows.as_slice() {
+        push_common(to, &mut blocks, old, entry)?;
     }
     Ok(blocks)
 }
 
 // The block of a new row, where there is an old one of its number.
-#[tactic(auto, using(crate::proofs::Told::block_is_told))]
+#[tactic(auto, using(crate::proofs::Encoded::block_is_encoded, crate::proofs::ShortRows::short_at))]
 fn push_common(
-    alloc: Global,
+    to: &Target<'_>,
     blocks: &mut Blocks,
-    schema: &Schema,
     old: &Rows,
-    new: &Rows,
     entry: &RowEntry,
 ) -> Result<(), Memory>
-    ensures { OnOk result (blocks.new ≡ blocks.old ++ told_blocks (common_block schema.now new.now entry.now (row_at old.now entry.now.who))) }
+    requires old { IsTrue (are_short to.now.schema.now old.now) }
+    requires new { IsTrue (is_short to.now.schema.now entry.now.row) }
+    requires kind { IsTrue (keeps_kind entry.now.row (row_at old.now entry.now.who)) }
+    ensures { OnOk result (blocks.new ≡ blocks.old ++ encoded_blocks (common_block to.now.schema.now to.now.rows.now entry.now (row_at old.now entry.now.who))) }
 {
     match old.get(entry.who) {
         None => Ok(()),
         Some(row) => {
-            let ops = row_ops(alloc, schema, new, row, &entry.row)?;
+            let ops = row_ops(to, row, &entry.row)?;
             push_block(blocks, entry.who, ops)
         }
     }
@@ -68,7 +82,7 @@ fn push_common(
 
 // A block, where it has an operation.
 fn push_block(blocks: &mut Blocks, holder: RefNum, ops: Ops) -> Result<(), Memory>
-    ensures { OnOk result (blocks.new ≡ blocks.old ++ block_told holder ops) }
+    ensures { OnOk result (blocks.new ≡ blocks.old ++ block_encoded holder ops) }
 {
     if ops.is_empty() {
         return Ok(());
@@ -78,25 +92,24 @@ fn push_block(blocks: &mut Blocks, holder: RefNum, ops: Ops) -> Result<(), Memor
 
 // The blocks of new rows, each whole, in the order in which operations first name them.
 fn push_new_blocks(
-    alloc: Global,
+    to: &Target<'_>,
     blocks: &mut Blocks,
-    schema: &Schema,
     old: &Rows,
-    new: &Rows,
     names: Vec<u32>,
 ) -> Result<(), Memory>
-    ensures { OnOk result (blocks.new ≡ blocks.old ++ told_blocks (new_blocks (length new.now) schema.now new.now (numbers_of old.now) names.items)) }
+    requires { IsTrue (are_short to.now.schema.now to.now.rows.now) }
+    ensures { OnOk result (blocks.new ≡ blocks.old ++ encoded_blocks (new_blocks (length to.now.rows.now) to.now.schema.now to.now.rows.now (numbers_of old.now) names.items)) }
 {
     let mut names = names;
     let mut at = 0;
-    let mut done = NumberSet::new(alloc);
-    for _ in 0..new.as_slice().len() {
+    let mut done = NumberSet::new(to.alloc);
+    for _ in 0..to.rows.as_slice().len() {
         let Some((who, behind)) = next_named(names.as_slice(), at, old, &done) else {
             return Ok(());
         };
         add_number(&mut done, RefNum(who))?;
         at = behind;
-        let ops = new_ops(alloc, schema, new, RefNum(who))?;
+        let ops = new_ops(to, RefNum(who))?;
         push_names(&mut names, ops.as_slice())?;
         push_block(blocks, RefNum(who), ops)?;
     }
@@ -125,11 +138,13 @@ fn is_done(old: &Rows, done: &NumberSet, who: u32) -> bool
 }
 
 // The operations of a whole new row, where it is there.
-fn new_ops(alloc: Global, schema: &Schema, new: &Rows, who: RefNum) -> Result<Ops, Memory>
-    ensures { IfOk result (λ ops. ops ≡ map told (new_edits schema.now new.now who)) }
+#[tactic(auto, using(crate::proofs::ShortRows::short_at))]
+fn new_ops(to: &Target<'_>, who: RefNum) -> Result<Ops, Memory>
+    requires { IsTrue (are_short to.now.schema.now to.now.rows.now) }
+    ensures { IfOk result (λ ops. ops ≡ map encoded (new_edits to.now.schema.now to.now.rows.now who)) }
 {
-    match new.get(who) {
-        None => Ok(Seq::new(alloc)),
-        Some(row) => whole_ops(alloc, schema, new, row),
+    match to.rows.get(who) {
+        None => Ok(Seq::new(to.alloc)),
+        Some(row) => whole_ops(to, row),
     }
 }

@@ -6,15 +6,16 @@ ghost use Rattle.schema_model.specs.declared.value.Value.TheVariants.{Link};
 ghost use Rattle.state_model.specs.declared.place.Wanted.TheVariants.{Item as AnItem};
 ghost use Rattle.state_model.specs.Reached.{is_among};
 ghost use Rattle.state_model.specs.Values.{same_value};
-ghost use Rattle.wire_model.specs.Edits.{told};
+ghost use Rattle.wire_model.specs.Edits.{encoded};
 ghost use Rattle.wire_model.specs.Patch.{drop_edit, gone_of, kept_of, ref_edits, same_values, stands_in};
-ghost use Rattle.canon_patch.specs.ByRef.{AreLinksOf, after_all, after_first, come_told, gone_told, is_ended, push_told};
+ghost use Rattle.canon_patch.specs.ByRef.{AreLinksOf, after_all, after_first, come_encoded, gone_encoded, is_ended, push_encoded};
 
 use crate::marks::add_number;
-use crate::place::{kind_wanted, value_told};
+use crate::place::{kind_wanted, value_encoded};
+use crate::target::Target;
 use plain_rows::NumberSet;
-use schema_model::{Home, Memory, ScalarKind, Schema, Value};
-use state_model::{Rows, item_wants};
+use schema_model::{Home, Memory, ScalarKind, Value};
+use state_model::item_wants;
 use std::alloc::Global;
 use wire_model::{Op, Ops};
 
@@ -22,25 +23,23 @@ use wire_model::{Op, Ops};
 // that gives the new order; else all are added anew. Near-linear where the values are links, as they are in rows
 // of the schema.
 pub(crate) fn push_by_ref(
-    alloc: Global,
+    to: &Target<'_>,
     ops: &mut Ops,
-    schema: &Schema,
-    rows: &Rows,
     home: Home,
     old: &[Value],
     new: &[Value],
 ) -> Result<(), Memory>
-    ensures { OnOk result (ops.new ≡ ops.old ++ map told (ref_edits schema.now rows.now home old.now new.now)) }
+    ensures { OnOk result (ops.new ≡ ops.old ++ map encoded (ref_edits to.now.schema.now to.now.rows.now home old.now new.now)) }
 {
-    let kind = kind_wanted(item_wants(schema, home));
-    let old_links = links_of(alloc, old)?;
-    let new_links = links_of(alloc, new)?;
+    let kind = kind_wanted(item_wants(to.schema, home));
+    let old_links = links_of(to.alloc, old)?;
+    let new_links = links_of(to.alloc, new)?;
     if is_appended(old, &old_links, new, &new_links) {
         push_gone(ops, old, new, &new_links)?;
-        push_come(alloc, ops, rows, kind, old, &old_links, new)
+        push_come(to, ops, kind, old, &old_links, new)
     } else {
         ops.push(Op::Clear)?;
-        push_all(alloc, ops, rows, kind, new)
+        push_all(to, ops, kind, new)
     }
 }
 
@@ -163,7 +162,7 @@ fn push_gone(
     new_links: &NumberSet,
 ) -> Result<(), Memory>
     requires { AreLinksOf new.now new_links.now }
-    ensures { OnOk result (ops.new ≡ ops.old ++ flat_map (gone_told new.now) old.now) }
+    ensures { OnOk result (ops.new ≡ ops.old ++ flat_map (gone_encoded new.now) old.now) }
 {
     for value in old {
         if !stands_in(new, new_links, value) {
@@ -174,7 +173,7 @@ fn push_gone(
 }
 
 fn push_drop(ops: &mut Ops, value: &Value) -> Result<(), Memory>
-    ensures { OnOk result (ops.new ≡ ops.old ++ map told (drop_edit value.now)) }
+    ensures { OnOk result (ops.new ≡ ops.old ++ map encoded (drop_edit value.now)) }
 {
     match value {
         Value::Link(who) => ops.push(Op::DeleteByRef(*who)),
@@ -184,20 +183,19 @@ fn push_drop(ops: &mut Ops, value: &Value) -> Result<(), Memory>
 
 // ADD_BY_REFID of the values that came.
 fn push_come(
-    alloc: Global,
+    to: &Target<'_>,
     ops: &mut Ops,
-    rows: &Rows,
     kind: ScalarKind,
     old: &[Value],
     old_links: &NumberSet,
     new: &[Value],
 ) -> Result<(), Memory>
     requires { AreLinksOf old.now old_links.now }
-    ensures { OnOk result (ops.new ≡ ops.old ++ flat_map (come_told rows.now (Some (AnItem (Scalar kind))) old.now) new.now) }
+    ensures { OnOk result (ops.new ≡ ops.old ++ flat_map (come_encoded to.now.rows.now (Some (AnItem (Scalar kind))) old.now) new.now) }
 {
     for value in new {
         if !stands_in(old, old_links, value) {
-            push_value(alloc, ops, rows, kind, value)?;
+            push_value(to, ops, kind, value)?;
         }
     }
     Ok(())
@@ -205,29 +203,22 @@ fn push_come(
 
 // ADD_BY_REFID of all values.
 fn push_all(
-    alloc: Global,
+    to: &Target<'_>,
     ops: &mut Ops,
-    rows: &Rows,
     kind: ScalarKind,
     values: &[Value],
 ) -> Result<(), Memory>
-    ensures { OnOk result (ops.new ≡ ops.old ++ map (push_told rows.now (Some (AnItem (Scalar kind)))) values.now) }
+    ensures { OnOk result (ops.new ≡ ops.old ++ map (push_encoded to.now.rows.now (Some (AnItem (Scalar kind)))) values.now) }
 {
     for value in values {
-        push_value(alloc, ops, rows, kind, value)?;
+        push_value(to, ops, kind, value)?;
     }
     Ok(())
 }
 
-fn push_value(
-    alloc: Global,
-    ops: &mut Ops,
-    rows: &Rows,
-    kind: ScalarKind,
-    value: &Value,
-) -> Result<(), Memory>
-    ensures { OnOk result (ops.new ≡ ops.old ++ push_told rows.now (Some (AnItem (Scalar kind))) value.now ∷ []) }
+fn push_value(to: &Target<'_>, ops: &mut Ops, kind: ScalarKind, value: &Value) -> Result<(), Memory>
+    ensures { OnOk result (ops.new ≡ ops.old ++ push_encoded to.now.rows.now (Some (AnItem (Scalar kind))) value.now ∷ []) }
 {
-    let carried = value_told(alloc, rows, kind, true, value)?;
+    let carried = value_encoded(to, kind, true, value)?;
     ops.push(Op::AddByRef(carried))
 }

@@ -3,88 +3,67 @@ ghost use Rattle.std.specs.Prelude.{◌≡◌, ◌++◌, OnOk, map, option_copie
 ghost use Rattle.std.specs.List.{flat_map};
 ghost use Rattle.std.specs.Option.{option_map};
 ghost use Rattle.state_model.specs.declared.row.FieldValue.{FieldValue};
-ghost use Rattle.wire_model.specs.Edits.{told};
+ghost use Rattle.wire_model.specs.Edits.{encoded};
 ghost use Rattle.wire_model.specs.Patch.{field_edits};
-ghost use Rattle.canon_patch.specs.Told.{field_told, index_of};
+ghost use Rattle.canon_patch.specs.Encoded.{field_encoded, index_of};
 
 use crate::numbers::either_numbers;
 use crate::place::{kind_wanted, push_place};
-use schema_model::{Memory, Schema, TypeNum, Value};
-use state_model::{FieldValue, FieldValues, Rows, field_wants};
-use std::alloc::Global;
+use crate::target::Target;
+use schema_model::{Memory, TypeNum, Value};
+use state_model::{FieldValue, FieldValues, field_wants};
 use wire_model::{OpKey, Ops};
 
 // The operations on the fields, rising.
-#[tactic(auto, using(crate::proofs::Told::fields_told))]
+#[tactic(auto, using(crate::proofs::Encoded::fields_encoded))]
 pub(crate) fn push_fields(
-    alloc: Global,
+    to: &Target<'_>,
     ops: &mut Ops,
-    schema: &Schema,
-    rows: &Rows,
     class: TypeNum,
     old: &FieldValues,
     new: &FieldValues,
 ) -> Result<(), Memory>
-    ensures { OnOk result (ops.new ≡ ops.old ++ map told (field_edits schema.now rows.now class old.now new.now)) }
+    ensures { OnOk result (ops.new ≡ ops.old ++ map encoded (field_edits to.now.schema.now to.now.rows.now class old.now new.now)) }
 {
-    let numbers = either_numbers(alloc, old, new)?;
-    push_each(
-        alloc,
-        ops,
-        schema,
-        rows,
-        class,
-        old,
-        new,
-        numbers.as_slice(),
-    )
+    let numbers = either_numbers(to.alloc, old, new)?;
+    push_each(to, ops, class, old, new, numbers.as_slice())
 }
 
 // The operations on the fields of these numbers.
 fn push_each(
-    alloc: Global,
+    to: &Target<'_>,
     ops: &mut Ops,
-    schema: &Schema,
-    rows: &Rows,
     class: TypeNum,
     old: &FieldValues,
     new: &FieldValues,
     numbers: &[u32],
 ) -> Result<(), Memory>
-    ensures { OnOk result (ops.new ≡ ops.old ++ flat_map (field_told schema.now rows.now class old.now new.now) numbers.now) }
+    ensures { OnOk result (ops.new ≡ ops.old ++ flat_map (field_encoded to.now.schema.now to.now.rows.now class old.now new.now) numbers.now) }
 {
     for number in numbers {
-        push_field(alloc, ops, schema, rows, &class, old, new, *number)?;
+        push_field(to, ops, &class, old, new, *number)?;
     }
     Ok(())
 }
 
 // The operation on the field of a number, where either list has it.
 fn push_field(
-    alloc: Global,
+    to: &Target<'_>,
     ops: &mut Ops,
-    schema: &Schema,
-    rows: &Rows,
     class: &TypeNum,
     old: &FieldValues,
     new: &FieldValues,
     number: u32,
 ) -> Result<(), Memory>
-    ensures { OnOk result (ops.new ≡ ops.old ++ field_told schema.now rows.now class.now old.now new.now number) }
+    ensures { OnOk result (ops.new ≡ ops.old ++ field_encoded to.now.schema.now to.now.rows.now class.now old.now new.now number) }
 {
     let (before, after) = (old.get(number), new.get(number));
     let Some(index) = index_of(before, after) else {
         return Ok(());
     };
-    push_place(
-        alloc,
-        ops,
-        rows,
-        OpKey::Field(index),
-        kind_wanted(field_wants(schema, *class, index)),
-        value_of(before),
-        value_of(after),
-    )
+    let kind = kind_wanted(field_wants(to.schema, *class, index));
+    let key = OpKey::Field(index);
+    push_place(to, ops, key, kind, value_of(before), value_of(after))
 }
 
 // The index of a field that is in one list or in both.

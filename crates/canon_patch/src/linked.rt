@@ -28,7 +28,7 @@ pub fn holder_kind(alloc: Global, rows: &Tree<RowEntry>, who: RefNum) -> Row
 }
 
 /// Adds the rows that the operations of a holder link to, where they aren't there.
-pub fn add_linked(
+pub(crate) fn add_linked(
     alloc: Global,
     schema: &Schema,
     rows: &mut Tree<RowEntry>,

@@ -1,7 +1,7 @@
 //! The numbers that operations name, in order.
 ghost use Rattle.std.specs.Prelude.{◌≡◌, ◌++◌, OnOk, IfOk};
 ghost use Rattle.std.specs.List.{flat_map};
-ghost use Rattle.canon_patch.specs.Names.{named_by_op, named_by_value, named_by_ops, named_by_told};
+ghost use Rattle.canon_patch.specs.Names.{named_by_op, named_by_value, named_by_ops, named_by_encoded};
 
 use lists::Memory;
 use std::alloc::Global;
@@ -9,7 +9,7 @@ use wire_model::{Block, Op, OpValue};
 
 // The numbers that blocks name.
 pub(crate) fn names_in_blocks(alloc: Global, blocks: &[Block]) -> Result<Vec<u32>, Memory>
-    ensures { IfOk result (λ ns. ns.items ≡ named_by_told blocks.now) }
+    ensures { IfOk result (λ ns. ns.items ≡ named_by_encoded blocks.now) }
 {
     let mut names = Vec::new(alloc);
     for block in blocks {

@@ -5,39 +5,37 @@ ghost use Rattle.schema_model.specs.declared.value.Value.TheVariants.{Link};
 ghost use Rattle.state_model.specs.declared.place.Wanted.TheVariants.{Item as AnItem};
 ghost use Rattle.state_model.specs.Places.{item_wants, row_class};
 ghost use Rattle.state_model.specs.Values.{is_link};
-ghost use Rattle.wire_model.specs.Edits.{Add, DeleteAdd, Replace, told, told_link, told_value};
+ghost use Rattle.wire_model.specs.Edits.{Add, DeleteAdd, Replace, encoded, encoded_link, encoded_value};
 ghost use Rattle.wire_model.specs.Patch.{carried, changed_place, kind_in, kind_wanted, place_edit};
 
-use lists::Seq;
+use crate::target::Target;
 use schema_model::{Item, Memory, RefNum, ScalarKind, TypeNum, Value};
 use state_model::{Row, Rows, Wanted};
-use std::alloc::Global;
 use wire_model::{Op, OpKey, OpValue, Ops};
 
 // The operation on a place whose key is the same under every operation: nothing where it is as it was.
 pub(crate) fn push_place(
-    alloc: Global,
+    to: &Target<'_>,
     ops: &mut Ops,
-    rows: &Rows,
     key: OpKey,
     kind: ScalarKind,
     old: Option<&Value>,
     new: Option<&Value>,
 ) -> Result<(), Memory>
-    ensures { OnOk result (ops.new ≡ ops.old ++ map told (place_edit key key rows.now (Some (AnItem (Scalar kind)))
+    ensures { OnOk result (ops.new ≡ ops.old ++ map encoded (place_edit key key to.now.rows.now (Some (AnItem (Scalar kind)))
         (option_copied old.entry) (option_copied new.entry))) }
 {
     match (old, new) {
         (None, None) => Ok(()),
         (Some(_), None) => ops.push(Op::Delete(key)),
-        (None, Some(value)) => push_added(alloc, ops, rows, key, kind, value),
+        (None, Some(value)) => push_added(to, ops, key, kind, value),
         (Some(before), Some(value)) => {
             if before.same(value) {
                 Ok(())
             } else if is_link(value) {
-                push_exchanged(alloc, ops, rows, key, kind, value)
+                push_exchanged(to, ops, key, kind, value)
             } else {
-                push_replaced(alloc, ops, rows, key, kind, value)
+                push_replaced(to, ops, key, kind, value)
             }
         }
     }
@@ -45,81 +43,77 @@ pub(crate) fn push_place(
 
 // ADD of a value.
 pub(crate) fn push_added(
-    alloc: Global,
+    to: &Target<'_>,
     ops: &mut Ops,
-    rows: &Rows,
     key: OpKey,
     kind: ScalarKind,
     value: &Value,
 ) -> Result<(), Memory>
-    ensures { OnOk result (ops.new ≡ ops.old ++ told (Add key (carried rows.now (Some (AnItem (Scalar kind))) value.now)) ∷ []) }
+    ensures { OnOk result (ops.new ≡ ops.old ++ encoded (Add key (carried to.now.rows.now (Some (AnItem (Scalar kind))) value.now)) ∷ []) }
 {
-    let carried = value_told(alloc, rows, kind, true, value)?;
+    let carried = value_encoded(to, kind, true, value)?;
     ops.push(Op::Add(key, carried))
 }
 
 // DELETE_AND_ADD of a value.
 pub(crate) fn push_exchanged(
-    alloc: Global,
+    to: &Target<'_>,
     ops: &mut Ops,
-    rows: &Rows,
     key: OpKey,
     kind: ScalarKind,
     value: &Value,
 ) -> Result<(), Memory>
-    ensures { OnOk result (ops.new ≡ ops.old ++ told (DeleteAdd key (carried rows.now (Some (AnItem (Scalar kind))) value.now)) ∷ []) }
+    ensures { OnOk result (ops.new ≡ ops.old ++ encoded (DeleteAdd key (carried to.now.rows.now (Some (AnItem (Scalar kind))) value.now)) ∷ []) }
 {
-    let carried = value_told(alloc, rows, kind, true, value)?;
+    let carried = value_encoded(to, kind, true, value)?;
     ops.push(Op::DeleteAdd(key, carried))
 }
 
 // REPLACE by a value.
 pub(crate) fn push_replaced(
-    alloc: Global,
+    to: &Target<'_>,
     ops: &mut Ops,
-    rows: &Rows,
     key: OpKey,
     kind: ScalarKind,
     value: &Value,
 ) -> Result<(), Memory>
-    ensures { OnOk result (ops.new ≡ ops.old ++ told (Replace key (carried rows.now (Some (AnItem (Scalar kind))) value.now)) ∷ []) }
+    ensures { OnOk result (ops.new ≡ ops.old ++ encoded (Replace key (carried to.now.rows.now (Some (AnItem (Scalar kind))) value.now)) ∷ []) }
 {
-    let carried = value_told(alloc, rows, kind, false, value)?;
+    let carried = value_encoded(to, kind, false, value)?;
     ops.push(Op::Replace(key, carried))
 }
 
 // A value as an operation with or without the ADD bit carries it.
-pub(crate) fn value_told(
-    alloc: Global,
-    rows: &Rows,
+pub(crate) fn value_encoded(
+    to: &Target<'_>,
     kind: ScalarKind,
     adds: bool,
     value: &Value,
 ) -> Result<OpValue, Memory>
-    ensures { IfOk result (λ v. v ≡ told_value adds (carried rows.now (Some (AnItem (Scalar kind))) value.now)) }
+    ensures { IfOk result (λ v. v ≡ encoded_value adds (carried to.now.rows.now (Some (AnItem (Scalar kind))) value.now)) }
 {
     match value {
-        Value::Link(who) => Ok(link_told(rows, adds, *who)),
+        Value::Link(who) => Ok(link_encoded(to.rows, adds, *who)),
         Value::Whole(_) | Value::Str(_) | Value::Truth(_) => {
-            Ok(OpValue::Scalar(kind, value.copy(alloc)?))
+            Ok(OpValue::Scalar(kind, value.copy(to.alloc)?))
         }
     }
 }
 
 // A link with what the linked row is.
-fn link_told(rows: &Rows, adds: bool, who: RefNum) -> OpValue
-    ensures { result ≡ told_link adds who (row_class (kind_in rows.now who)) }
+fn link_encoded(rows: &Rows, adds: bool, who: RefNum) -> OpValue
+    ensures { result ≡ encoded_link adds who (row_class (kind_in rows.now who)) }
 {
     match rows.get(who) {
-        None => instance_told(adds, who, TypeNum(0)),
-        Some(Row::Struct(class, _)) => instance_told(adds, who, *class),
+        None => instance_encoded(adds, who, TypeNum(0)),
+        Some(Row::Struct(class, _)) => instance_encoded(adds, who, *class),
         Some(Row::Map(_, _) | Row::Array(_, _) | Row::Set(_, _)) => OpValue::Coll(who),
     }
 }
 
 // A link to an instance, with its class where the operation has the ADD bit.
-fn instance_told(adds: bool, who: RefNum, class: TypeNum) -> OpValue
-    ensures { result ≡ told_link adds who (Some class) }
+fn instance_encoded(adds: bool, who: RefNum, class: TypeNum) -> OpValue
+    ensures { result ≡ encoded_link adds who (Some class) }
 {
     if adds {
         OpValue::Struct(who, Some(class))

@@ -1,81 +1,63 @@
 //! The operations on one row.
-ghost use Rattle.std.specs.Prelude.{◌≡◌, ◌++◌, IfOk, OnOk, map};
+ghost use Rattle.std.specs.Prelude.{◌≡◌, ◌++◌, IfOk, IsTrue, OnOk, map};
+ghost use Rattle.state_model.specs.Places.{same_kind};
 ghost use Rattle.state_model.specs.Rows.{emptied};
-ghost use Rattle.wire_model.specs.Edits.{told};
-ghost use Rattle.wire_model.specs.Patch.{row_edits, whole_edits, whole_start};
+ghost use Rattle.wire_model.specs.Edits.{encoded};
+ghost use Rattle.wire_model.specs.Patch.{is_short, row_edits, whole_edits, whole_start};
+ghost use Rattle.canon_patch.specs.Positions.{row_has_positions};
 
 use crate::array::push_values;
 use crate::fields::push_fields;
 use crate::map::push_items;
 use crate::set::push_elements;
+use crate::target::Target;
 use lists::{Rising, Seq};
-use schema_model::{Memory, Schema};
-use state_model::{Row, Rows};
+use schema_model::Memory;
+use state_model::Row;
 use std::alloc::Global;
 use wire_model::{Op, Ops};
 
 // The operations that lead from an old row to a new one of the same kind.
-pub(crate) fn push_row(
-    alloc: Global,
-    ops: &mut Ops,
-    schema: &Schema,
-    rows: &Rows,
-    old: &Row,
-    new: &Row,
-) -> Result<(), Memory>
-    ensures { OnOk result (ops.new ≡ ops.old ++ map told (row_edits schema.now rows.now old.now new.now)) }
+pub(crate) fn push_row(to: &Target<'_>, ops: &mut Ops, old: &Row, new: &Row) -> Result<(), Memory>
+    requires { IsTrue (row_has_positions to.now.schema.now old.now new.now) }
+    ensures { OnOk result (ops.new ≡ ops.old ++ map encoded (row_edits to.now.schema.now to.now.rows.now old.now new.now)) }
 {
     match (old, new) {
-        (Row::Struct(_, old), Row::Struct(class, new)) => {
-            push_fields(alloc, ops, schema, rows, *class, old, new)
-        }
-        (Row::Map(_, old), Row::Map(home, new)) => {
-            push_items(alloc, ops, schema, rows, *home, old, new)
-        }
-        (Row::Array(_, old), Row::Array(home, new)) => {
-            push_values(alloc, ops, schema, rows, home, old, new)
-        }
-        (Row::Set(_, old), Row::Set(home, new)) => {
-            push_elements(alloc, ops, schema, rows, *home, old, new)
-        }
+        (Row::Struct(_, old), Row::Struct(class, new)) => push_fields(to, ops, *class, old, new),
+        (Row::Map(_, old), Row::Map(home, new)) => push_items(to, ops, *home, old, new),
+        (Row::Array(_, old), Row::Array(home, new)) => push_values(to, ops, home, old, new),
+        (Row::Set(_, old), Row::Set(home, new)) => push_elements(to, ops, *home, old, new),
         _ => Ok(()),
     }
 }
 
 // The operations that lead from an old row to a new one of the same kind.
-pub(crate) fn row_ops(
-    alloc: Global,
-    schema: &Schema,
-    rows: &Rows,
-    old: &Row,
-    new: &Row,
-) -> Result<Ops, Memory>
-    ensures { IfOk result (λ ops. ops ≡ map told (row_edits schema.now rows.now old.now new.now)) }
+pub(crate) fn row_ops(to: &Target<'_>, old: &Row, new: &Row) -> Result<Ops, Memory>
+    requires old { IsTrue (is_short to.now.schema.now old.now) }
+    requires new { IsTrue (is_short to.now.schema.now new.now) }
+    requires kind { IsTrue (same_kind old.now new.now) }
+    ensures { IfOk result (λ ops. ops ≡ map encoded (row_edits to.now.schema.now to.now.rows.now old.now new.now)) }
 {
-    let mut ops = Seq::new(alloc);
-    push_row(alloc, &mut ops, schema, rows, old, new)?;
+    let mut ops = Seq::new(to.alloc);
+    push_row(to, &mut ops, old, new)?;
     Ok(ops)
 }
 
 // The operations of a whole row.
-pub(crate) fn whole_ops(
-    alloc: Global,
-    schema: &Schema,
-    rows: &Rows,
-    row: &Row,
-) -> Result<Ops, Memory>
-    ensures { IfOk result (λ ops. ops ≡ map told (whole_edits schema.now rows.now row.now)) }
+pub(crate) fn whole_ops(to: &Target<'_>, row: &Row) -> Result<Ops, Memory>
+    requires { IsTrue (is_short to.now.schema.now row.now) }
+    ensures { IfOk result (λ ops. ops ≡ map encoded (whole_edits to.now.schema.now to.now.rows.now row.now)) }
 {
-    let mut ops = Seq::new(alloc);
+    let mut ops = Seq::new(to.alloc);
     push_start(&mut ops, row)?;
-    let empty = emptied(alloc, row);
-    push_row(alloc, &mut ops, schema, rows, &empty, row)?;
+    let empty = emptied(to.alloc, row);
+    push_row(to, &mut ops, &empty, row)?;
     Ok(ops)
 }
 
 // A whole array that isn't empty begins with CLEAR.
 fn push_start(ops: &mut Ops, row: &Row) -> Result<(), Memory>
-    ensures { OnOk result (ops.new ≡ ops.old ++ map told (whole_start row.now)) }
+    ensures { OnOk result (ops.new ≡ ops.old ++ map encoded (whole_start row.now)) }
 {
     match row {
         Row::Array(_, values) if !values.is_empty() => ops.push(Op::Clear),

@@ -34,6 +34,21 @@ module _ {E W : Type 0} (number : E → ℕ) (what : E → W) (same : W → W �
   item_found low [] w e r h = cc
   item_found low (x ∷ es) w e r h = grind (arith, nat_tests, number_low (suc (number x)) es w e r.1, item_found (suc (number x)) es w e r.1)
 
+  -- it holds this
+  pub item_has : (es : List E) (w : W) (e : E) → item_of what same w es ≡ Some e → same (what e) w ≡ true
+  item_has [] w e h = cc
+  item_has (x ∷ es) w e h = grind (arith, nat_tests, item_has es w e)
+
+  -- what none of the items holds is not what one of them holds
+  other_holds : (es : List E) (w : W) (n : ℕ) (e : E) → list_any (same w) (map what es) ≡ false → rising.find number n es ≡ Some e → same w (what e) ≡ false
+  other_holds [] w n e h at = cc
+  other_holds (x ∷ es) w n e h at = grind (arith, nat_tests, other_holds es w n e)
+
+  -- the item of a number is that which holds what it holds
+  pub found_item : (n : ℕ) (es : List E) (e : E) → all_differ same (map what es) ≡ true → rising.find number n es ≡ Some e → item_of what same (what e) es ≡ Some e
+  found_item n [] e d h = cc
+  found_item n (x ∷ es) e d h = grind (arith, nat_tests, found_item n es e, other_holds es (what x) n e, self (what e))
+
   -- ---- an item is added
 
   -- who holds what

@@ -1,5 +1,5 @@
 -- The items of a map while values are put under keys and taken out.
-use Rattle.std.proofs.Common.{◌≡◌, ℕ, suc, ◌+◌, ◌<◌, ◌≤◌, Bool, List, [], ◌∷◌, ◌++◌, map, Option, Some, None, Ok, Err, IsSome, false, not, filter, is_some, if◌then◌else◌, option_map, refl, sym, ap, subst, ◌∙◌, zero-le, arith}
+use Rattle.std.proofs.Common.{◌≡◌, ℕ, suc, ◌+◌, ◌<◌, ◌≤◌, Bool, List, [], ◌∷◌, ◌++◌, map, Option, Some, None, Ok, Err, IsSome, true, false, not, filter, is_some, if◌then◌else◌, option_map, refl, sym, ap, subst, ◌∙◌, zero-le, arith}
 use Rattle.std.specs.Bool.{nat_lt}
 use Rattle.std.specs.Map.{update}
 use Rattle.std.specs.Str.{bytes_eq}
@@ -7,7 +7,7 @@ use Rattle.std.proofs.lemmas.Bool.Decides.{nat_tests}
 use Rattle.std.proofs.lemmas.Option.{same_Some}
 use Rattle.lists.specs.Rising as rising
 use Rattle.lists.specs.Rising.{RisesFrom, IsAbove}
-use Rattle.lists.proofs.RisingLaws.{RisesFrom-put, RisesFrom-push, RisesFrom-filter, IsAbove-put, IsAbove-higher, IsAbove-append, IsAbove-filter}
+use Rattle.lists.proofs.RisingLaws.{find_key, find-put, RisesFrom-put, RisesFrom-push, RisesFrom-filter, IsAbove-put, IsAbove-higher, IsAbove-append, IsAbove-filter}
 use Rattle.lists.proofs.SameBytes.{same_bytes, bytes_eq_self}
 use Rattle.schema_model.specs.declared.value.Value.{Value}
 use Rattle.state_model.specs.declared.row.MapItem.{MapItem}
@@ -15,7 +15,7 @@ use Rattle.state_model.specs.Sound.{keys_differ}
 use Rattle.state_model.specs.Commands.{put_key}
 use Rattle.collection_ops.specs.declared.fault.ItemFault.TheVariants.{NumbersSpent}
 use Rattle.collection_ops.specs.Bodies.{MapState, map_number, key_item, if_there, map_put, map_put_over, map_remove, IsMapKept, LeadsKeys}
-use Rattle.collection_ops.proofs.Indexed.{all_differ, item_found, item_there, leads-push, differ-push, push_undone, item_out, leads-out, differ-filter}
+use Rattle.collection_ops.proofs.Indexed.{all_differ, item_has, item_found, found_item, item_there, leads-push, differ-push, push_undone, item_out, leads-out, differ-filter}
 
 -- the key of an item
 abbrev key_in : MapItem → List ℕ
@@ -74,18 +74,51 @@ put_at s key v f i kept leads at =
       ap (map_put_over s key v) at ∙ ap (λ items. Ok (record { items = items; given = s.given }, (i.number, Some i.value))) same,
     )
 
--- a put over the number that the index tells
-pub put_again : (s : MapState) (key : List ℕ) (v : Value) (f : List ℕ → Option ℕ) (n : ℕ) (held : Option MapItem) (after : List MapItem) →
-    IsMapKept s → LeadsKeys s.items f → option_map map_number (key_item s.items key) ≡ Some n → held ≡ rising.find map_number n s.items →
-    after ≡ (if is_some (rising.find map_number n s.items) then rising.put map_number (record { number = n; key = key; value = v }) s.items else s.items) →
-    AfterPut s key v after s.given f n (option_map (λ (i : MapItem). i.value) held)
-put_again s key v f n held after kept leads led found made =
-    let there = item_there map_number key_in bytes_eq same_bytes bytes_eq_self s.items key n led in
-    let at : rising.find map_number n s.items ≡ Some there.0 = rw there.2 at (item_found map_number key_in bytes_eq same_bytes bytes_eq_self 0 s.items key there.0 kept.rises there.1) in
-    let x : ℕ → MapItem = λ m. record { number = m; key = key; value = v } in
-    let put = subst (λ m. AfterPut s key v (rising.put map_number (x m) s.items) s.given f m (Some there.0.value)) there.2 (put_at s key v f there.0 kept leads there.1) in
-    let whole : after ≡ rising.put map_number (x n) s.items = made ∙ ap (λ o. if is_some o then rising.put map_number (x n) s.items else s.items) at in
-    rw (whole, found ∙ at) put
+-- an item that is put over one of its number, which was put in
+put_twice : (x b : MapItem) (items : List MapItem) → b.number ≡ x.number → rising.put map_number x (rising.put map_number b items) ≡ rising.put map_number x items
+put_twice x b [] h = grind (arith, nat_tests)
+put_twice x b (e ∷ items) h = grind (arith, nat_tests, put_twice x b items)
+
+-- what a state keeps, an index and the answer of a put, where the number of the item is known
+abbrev pub AfterAgain : MapState → ℕ → Value → List MapItem → (List ℕ → Option ℕ) → Value → Type 0
+AfterAgain s n v after f old =
+    IsMapKept (record { items = after; given = s.given }) × LeadsKeys after f
+    × ((key : List ℕ) → option_map map_number (key_item s.items key) ≡ Some n → map_put s key v ≡ Ok (record { items = after; given = s.given }, (n, Some old)))
+
+-- an item is put over another one, which was put over that of the number
+pub put_again : (s : MapState) (n : ℕ) (v : Value) (f : List ℕ → Option ℕ) (blank old : MapItem) (between after : List MapItem) →
+    IsMapKept s → LeadsKeys s.items f → blank.number ≡ n → rising.find map_number n s.items ≡ Some old →
+    between ≡ (if is_some (rising.find map_number n s.items) then rising.put map_number blank s.items else s.items) →
+    after ≡ (if is_some (rising.find map_number n between) then rising.put map_number (record { number = n; key = old.key; value = v }) between else between) →
+    AfterAgain s n v after f old.value
+put_again s n v f blank old between after kept leads is at first second = rw whole (own.0, own.1, λ key led. of_key key (item_there map_number key_in bytes_eq same_bytes bytes_eq_self s.items key n led))
+  where
+    number : old.number ≡ n
+    number = find_key map_number n s.items old at
+
+    x : MapItem
+    x = record { number = n; key = old.key; value = v }
+
+    middle : between ≡ rising.put map_number blank s.items
+    middle = first ∙ ap (λ o. if is_some o then rising.put map_number blank s.items else s.items) at
+
+    there : is_some (rising.find map_number n between) ≡ true
+    there = grind (arith, nat_tests, ap (rising.find map_number n) middle, find-put map_number blank s.items n)
+
+    whole : after ≡ rising.put map_number x s.items
+    whole = second ∙ (ap (λ b. if b then rising.put map_number x between else between) there ∙ (ap (rising.put map_number x) middle ∙ put_twice x blank s.items is))
+
+    own_item : key_item s.items old.key ≡ Some old
+    own_item = found_item map_number key_in bytes_eq same_bytes bytes_eq_self n s.items old (sym (keys_apart (map key_in s.items)) ∙ kept.differ) at
+
+    own : AfterPut s old.key v (rising.put map_number x s.items) s.given f n (Some old.value)
+    own = subst (λ m. AfterPut s old.key v (rising.put map_number (record { number = m; key = old.key; value = v }) s.items) s.given f m (Some old.value)) number (put_at s old.key v f old kept leads own_item)
+
+    of_key : (key : List ℕ) → ((e : MapItem) × (key_item s.items key ≡ Some e) × (e.number ≡ n)) → map_put s key v ≡ Ok (record { items = rising.put map_number x s.items; given = s.given }, (n, Some old.value))
+    of_key key (e, found, same) =
+        let one : e ≡ old = same_Some e old (sym (item_found map_number key_in bytes_eq same_bytes bytes_eq_self 0 s.items key e kept.rises found) ∙ (ap (λ m. rising.find map_number m s.items) same ∙ at)) in
+        let has : old.key ≡ key = rw one at (same_bytes e.key key (item_has map_number key_in bytes_eq same_bytes bytes_eq_self s.items key e found)) in
+        subst (λ k. map_put s k v ≡ Ok (record { items = rising.put map_number x s.items; given = s.given }, (n, Some old.value))) has own.2
 
 -- ---- a new key
 

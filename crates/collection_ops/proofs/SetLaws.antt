@@ -29,9 +29,17 @@ any_item : (items : List SetItem) (v : Value) → has_value items v ≡ is_some 
 any_item [] v = refl
 any_item (i ∷ items) v = grind (arith, nat_tests, any_item items v)
 
--- the test whether a value leads somewhere
-pub value_there : (items : List SetItem) (f : Value → Option ℕ) (v : Value) (found : Option ℕ) (b : Bool) → LeadsValues items f → found ≡ f v → is_some found ≡ b → has_value items v ≡ b
-value_there items f v found b leads at is = any_item items v ∙ ap is_some (sym (leads v)) ∙ ap is_some (sym at) ∙ is
+-- the test whether a value has a number
+pub value_there : (items : List SetItem) (v : Value) (found : Option ℕ) (b : Bool) → found ≡ option_map set_number (value_item items v) → is_some found ≡ b → has_value items v ≡ b
+value_there items v found b at is = any_item items v ∙ (ap is_some (sym at) ∙ is)
+
+-- where it has none no item holds it
+pub none_holds : (items : List SetItem) (v : Value) (found : Option ℕ) → found ≡ option_map set_number (value_item items v) → is_some found ≡ false → value_item items v ≡ None
+none_holds items v found at is = go (value_item items v) (ap is_some (sym at) ∙ is)
+  where
+    go : (o : Option SetItem) → is_some (option_map set_number o) ≡ false → o ≡ None
+    go None h = refl
+    go (Some i) h = cc
 
 -- ---- a value is added
 
@@ -39,9 +47,13 @@ value_there items f v found b leads at is = any_item items v ∙ ap is_some (sym
 pub add_present : (s : SetState) (v : Value) → has_value s.items v ≡ true → set_add s v ≡ Err Present
 add_present s v h = rw h refl
 
+-- a value that no item holds isn't there
+not_there : (items : List SetItem) (v : Value) → value_item items v ≡ None → has_value items v ≡ false
+not_there items v none = any_item items v ∙ ap (λ o. is_some (option_map set_number o)) none
+
 -- no number is left
-pub add_spent : (s : SetState) (v : Value) → has_value s.items v ≡ false → nat_lt 2147483647 s.given ≡ true → set_add s v ≡ Err NumbersSpent
-add_spent s v h spent = rw (h, spent) refl
+pub add_spent : (s : SetState) (v : Value) → value_item s.items v ≡ None → nat_lt 2147483647 s.given ≡ true → set_add s v ≡ Err NumbersSpent
+add_spent s v none spent = rw (not_there s.items v none, spent) refl
 
 -- what a state keeps, an index and the answer of a call
 abbrev pub AfterAdd : SetState → Value → (Value → Option ℕ) → Type 0
@@ -49,17 +61,11 @@ AfterAdd s v g =
     let after : SetState = record { items = s.items ++ record { number = s.given; value = v } ∷ []; given = s.given + 1 } in
     IsSetKept after × LeadsValues after.items g × (set_add s v ≡ Ok (after, s.given))
 
--- no item has a value that isn't there
-none_there : (items : List SetItem) (v : Value) → has_value items v ≡ false → value_item items v ≡ None
-none_there [] v h = refl
-none_there (i ∷ items) v h = grind (arith, nat_tests, none_there items v)
-
 -- a value that isn't there is added
-pub added : (s : SetState) (v : Value) (f g : Value → Option ℕ) → IsSetKept s → LeadsValues s.items f → has_value s.items v ≡ false → nat_lt 2147483647 s.given ≡ false →
+pub added : (s : SetState) (v : Value) (f g : Value → Option ℕ) → IsSetKept s → LeadsValues s.items f → value_item s.items v ≡ None → nat_lt 2147483647 s.given ≡ false →
     ((q : Value) → g q ≡ update same_value f v (Some s.given) q) → AfterAdd s v g
-added s v f g kept leads absent left made =
+added s v f g kept leads none left made =
     let x : SetItem = record { number = s.given; value = v } in
-    let none = none_there s.items v absent in
     let few : s.given ≤ 2147483647 = grind (arith, nat_tests) in
     let differ = differ-push set_number value_in same_value same_is same_self s.items x none (sym (values_apart (map value_in s.items)) ∙ kept.differ) in (
       record {
@@ -69,7 +75,7 @@ added s v f g kept leads absent left made =
         few = omega arith;
       },
       leads-push set_number value_in same_value same_is same_self s.items x f g none leads made,
-      rw (absent, left) refl,
+      rw (not_there s.items v none, left) refl,
     )
 
 -- an item that was added is taken out again

@@ -4,9 +4,6 @@ ghost use Rattle.collection_ops.specs.declared.fault.ItemFault.TheVariants as fa
 use lists::Memory;
 use thiserror::Error;
 
-/// The greatest number of an item.
-pub const LAST_NUMBER: u32 = 0x7fff_ffff;
-
 /// Why a call of a collection's items was refused.
 #[derive(Clone, Copy, Debug, PartialEq, Eq, Error)]
 pub enum ItemFault {

@@ -1,17 +1,18 @@
-ghost use Rattle.std.specs.Prelude.{◌≡◌, [], length, map, option_map, slice_get, Some, None, Ok, IfOk, option_copied};
+ghost use Rattle.std.specs.Prelude.{◌≡◌, ℕ, List, [], length, map, option_map, slice_get, Some, None, Ok, IfOk, option_copied};
 ghost use Rattle.lists.specs.Rising.{RisesFrom, after_key, find};
 ghost use Rattle.state_model.specs.declared.row.MapItem.{MapItem};
 ghost use Rattle.collection_ops.specs.Bodies.{MapState, map_number, key_item, map_put, map_remove, Gives, Exactly, IsMapKept};
 
-use crate::fault::{ItemFault, LAST_NUMBER};
+use crate::fault::ItemFault;
 use lists::{Memory, Text};
-use schema_model::Value;
+use schema_model::{LAST_NUMBER, Value};
 use state_model::{MapItem, MapItems};
 use std::alloc::Global;
 use std::marker::Model;
 use trees::{Numbered, TextIndex};
 
-/// The items of a map, found by number and by key. A call takes logarithmic time.
+/// The items of a map, found by number and by key. A call takes logarithmic time, but for
+/// `number_at`, `clear` and `copy_items`; `after` passes over what was taken out in front of what it answers.
 #[derive(Drop)]
 pub struct MapBody {
     alloc: Global,
@@ -76,7 +77,7 @@ impl MapBody {
         self.items.after(number)
     }
 
-    /// The n-th item number, counted from 0.
+    /// The n-th item number, counted from 0. It passes over all items in front of it.
     pub fn number_at(&self, n: u32) -> Option<u32>
         ensures { result ≡ slice_get (map map_number self.now.items) n }
     {
@@ -103,18 +104,46 @@ impl MapBody {
         ensures { Gives (map_put self.old key value) self.old self.new result }
     {
         match self.number_of(key.as_str()) {
-            Some(number) => Ok((number, self.put_again(number, key, value))),
+            Some(number) => Ok((number, Some(self.put_again(number, value)))),
             None => self.put_new(key, value),
         }
     }
 
-    // Puts a new value under a key that is there.
-    fn put_again(&mut self, number: u32, key: Text, value: Value) -> Option<Value>
-        requires { option_map map_number (key_item self.old.items key) ≡ Some number }
-        ensures { map_put self.old key value ≡ Ok (self.new, (number, result)) }
+    /// Puts a value under a key, where the number of its item is known, if it has one; see `number_of`.
+    /// Answers as `put` does. Where the key is there no memory is taken.
+    pub fn put_at(
+        &mut self,
+        number: Option<u32>,
+        key: &Text,
+        value: Value,
+    ) -> Result<(u32, Option<Value>), ItemFault>
+        requires { number ≡ option_map map_number (key_item self.old.items key.now) }
+        ensures { Gives (map_put self.old key.now value) self.old self.new result }
     {
-        let old = self.items.replace(MapItem { number, key, value })?;
-        Some(old.value)
+        let Some(number) = number else {
+            let key = key.copy(self.alloc)?;
+            return self.put_new(key, value);
+        };
+        Ok((number, Some(self.put_again(number, value))))
+    }
+
+    // Puts a new value under the number of an item, which keeps its key. It takes no memory.
+    fn put_again(&mut self, number: u32, value: Value) -> Value
+        requires { (key : List ℕ) × (option_map map_number (key_item self.old.items key) ≡ Some number) }
+        ensures { (key : List ℕ) → option_map map_number (key_item self.old.items key) ≡ Some number → map_put self.old key value ≡ Ok (self.new, (number, Some result)) }
+    {
+        let blank = MapItem {
+            number,
+            key: Text::from_string(String::new(self.alloc)),
+            value: Value::Truth(false),
+        };
+        let old = self.items.replace(blank).unwrap();
+        self.items.replace(MapItem {
+            number,
+            key: old.key,
+            value,
+        });
+        old.value
     }
 
     // Puts an item with a key that isn't there.
@@ -144,9 +173,17 @@ impl MapBody {
     pub fn remove(&mut self, key: &str) -> Result<(u32, Value), ItemFault>
         ensures { Exactly (map_remove self.old key.now) self.old self.new result }
     {
-        let Some(number) = self.index.get(key) else {
-            return Err(ItemFault::NoItem);
-        };
+        match self.number_of(key) {
+            Some(number) => self.remove_at(number, key),
+            None => Err(ItemFault::NoItem),
+        }
+    }
+
+    /// Takes the item of a key out, where its number is known; see `number_of`.
+    pub fn remove_at(&mut self, number: u32, key: &str) -> Result<(u32, Value), ItemFault>
+        requires { option_map map_number (key_item self.old.items key.now) ≡ Some number }
+        ensures { Exactly (map_remove self.old key.now) self.old self.new result }
+    {
         self.index.remove(key);
         let item = self.items.remove(number).unwrap();
         Ok((number, item.value))

@@ -1,18 +1,19 @@
-ghost use Rattle.std.specs.Prelude.{◌≡◌, [], length, map, option_map, slice_get, IfOk, Ok, option_copied};
+ghost use Rattle.std.specs.Prelude.{◌≡◌, [], length, map, option_map, slice_get, Some, None, IfOk, Ok, option_copied};
 ghost use Rattle.lists.specs.Rising.{RisesFrom, after_key, find};
 ghost use Rattle.state_model.specs.declared.row.SetItem.{SetItem};
 ghost use Rattle.collection_ops.specs.Bodies.{SetState, set_number, value_item, set_add, set_remove, Gives, Exactly, IsSetKept};
 
-use crate::fault::{ItemFault, LAST_NUMBER};
+use crate::fault::ItemFault;
 use crate::value_index::ValueIndex;
 use lists::Memory;
-use schema_model::Value;
+use schema_model::{LAST_NUMBER, Value};
 use state_model::{SetItem, SetItems};
 use std::alloc::Global;
 use std::marker::Model;
 use trees::Numbered;
 
-/// The items of a set, found by number and by value. A call takes logarithmic time.
+/// The items of a set, found by number and by value. A call takes logarithmic time, but for
+/// `number_at`, `clear` and `copy_items`; `after` passes over what was taken out in front of what it answers.
 #[derive(Drop)]
 pub struct SetBody {
     alloc: Global,
@@ -77,7 +78,7 @@ impl SetBody {
         self.items.after(number)
     }
 
-    /// The n-th item number, counted from 0.
+    /// The n-th item number, counted from 0. It passes over all items in front of it.
     pub fn number_at(&self, n: u32) -> Option<u32>
         ensures { result ≡ slice_get (map set_number self.now.items) n }
     {
@@ -95,9 +96,17 @@ impl SetBody {
     pub fn add(&mut self, value: Value) -> Result<u32, ItemFault>
         ensures { Gives (set_add self.old value) self.old self.new result }
     {
-        if self.index.get(&value).is_some() {
+        if self.number_of(&value).is_some() {
             return Err(ItemFault::Present);
         }
+        self.add_new(value)
+    }
+
+    /// Adds an item with a value of which it is known that it isn't there; see `number_of`. Answers its number.
+    pub fn add_new(&mut self, value: Value) -> Result<u32, ItemFault>
+        requires { value_item self.old.items value ≡ None }
+        ensures { Gives (set_add self.old value) self.old self.new result }
+    {
         if self.given > LAST_NUMBER {
             return Err(ItemFault::NumbersSpent);
         }
@@ -120,9 +129,17 @@ impl SetBody {
     pub fn remove(&mut self, value: &Value) -> Result<u32, ItemFault>
         ensures { Exactly (set_remove self.old value.now) self.old self.new result }
     {
-        let Some(number) = self.index.get(value) else {
-            return Err(ItemFault::NoItem);
-        };
+        match self.number_of(value) {
+            Some(number) => self.remove_at(number, value),
+            None => Err(ItemFault::NoItem),
+        }
+    }
+
+    /// Takes the item of a value out, where its number is known; see `number_of`. Answers its number.
+    pub fn remove_at(&mut self, number: u32, value: &Value) -> Result<u32, ItemFault>
+        requires { option_map set_number (value_item self.old.items value.now) ≡ Some number }
+        ensures { Exactly (set_remove self.old value.now) self.old self.new result }
+    {
         self.index.remove(value);
         self.items.remove(number);
         Ok(number)

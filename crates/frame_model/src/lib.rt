@@ -1,6 +1,7 @@
 //! The messages of the client protocol: what a server and a client send each other, its bytes, and how they are read.
 #![tactic(auto)]
 
+pub mod codes;
 pub mod fault;
 pub mod frame;
 

@@ -145,9 +145,13 @@ abbrev pub framed : HubValue → List ℕ → Option HubConn → HubValue × Lis
 framed h bytes None = (h, [])
 framed h bytes (Some c) = room_stepped h c.room (event.Frame c.session bytes)
 
+-- the last moment, in milliseconds
+abbrev pub last_moment : ℕ
+last_moment = 2 ^ 53 - 1
+
 -- a moment; one past the last counts as the last
 abbrev pub moment_of : ℕ → ℕ
-moment_of now = min now (2 ^ 53 - 1)
+moment_of now = min now last_moment
 
 -- the hub at a moment; it never goes back
 abbrev pub at_moment : ℕ → HubValue → HubValue

@@ -2,5 +2,7 @@
 #![tactic(auto)]
 
 pub mod event;
+pub mod moment;
 
 pub use event::{Events, HubEvent, HubOut, HubOuts};
+pub use moment::LAST_MOMENT;

@@ -1,5 +1,5 @@
 -- A walk through the places that lead on: what it finds, and how many places it looks at.
-use Rattle.std.proofs.Common.{◌≡◌, ℕ, suc, ◌+◌, Bool, true, false, cond, ◌||◌, ◌==◌, List, [], ◌∷◌, ◌++◌, length, filter, map, take, Option, Some, None, sum_by, ℤ, refl, sym, ap, ◌∙◌, arith}
+use Rattle.std.proofs.Common.{◌≡◌, ℕ, suc, ◌+◌, ◌≤◌, Bool, true, false, cond, ◌||◌, ◌==◌, List, [], ◌∷◌, ◌++◌, length, filter, map, take, Option, Some, None, sum_by, ℤ, refl, sym, ap, ◌∙◌, arith}
 use Rattle.std.specs.List.{flat_map}
 use Rattle.std.specs.Option.{option_map, option_map_or}
 use Rattle.std.proofs.lemmas.Bool.Decides.{nat_tests}
@@ -19,6 +19,7 @@ use Rattle.state_model.specs.Rows.{number_of, row_at, is_live, held_in, values_i
 use Rattle.state_model.specs.Values.{held_by}
 use Rattle.state_laws.proofs.Numbers.{among_with_number}
 use Rattle.plain_rows.specs.Links.{held_at}
+use Rattle.plain_rows.proofs.Walks.{Walked}
 use Rattle.instance_table.specs.declared.node.Node.{Node}
 use Rattle.instance_table.specs.Behind.{numbers_behind, places_behind, held_through, places_at}
 use Rattle.instance_table.specs.Bodies.{row_of}
@@ -140,6 +141,22 @@ places_more rows seen n r new =
     let now = λ (k : ℕ). is_among k (with_number seen n) in
     sizes_more old now n 0 rows (λ k. among_with_number seen n k) new r
     ∙ ap (λ m. place_count (rows_of seen rows) + m) (sym (found_size (find number_of n rows)))
+
+-- of fewer numbers there are no more places
+sizes_within : (p q : ℕ → Bool) (rows : List RowEntry) → ((k : ℕ) → p k ≡ true → q k ≡ true) → sum_by size (passing p rows) ≤ sum_by size (passing q rows)
+sizes_within p q [] within = omega arith
+sizes_within p q (e ∷ rows) within =
+    let rest = sizes_within p q rows within in
+    let fewer = sum_by-cons size e (passing p rows) in
+    let more = sum_by-cons size e (passing q rows) in
+    grind (arith, within e.who, rest, fewer, more)
+
+pub places_within : (rows : List RowEntry) (ns ms : List ℕ) → ((k : ℕ) → is_among k ns ≡ true → is_among k ms ≡ true) → place_count (rows_of ns rows) ≤ place_count (rows_of ms rows)
+places_within rows ns ms within = sizes_within (λ k. is_among k ns) (λ k. is_among k ms) rows within
+
+-- the rows that a walk came to have no more places than those that it gets to
+pub places_walked : (thru rows : List RowEntry) (from : ℕ) (seen waiting : List ℕ) → Walked thru from seen waiting → place_count (rows_of seen rows) ≤ place_count (rows_of (reached thru from) rows)
+places_walked thru rows from seen waiting w = places_within rows seen (reached thru from) (λ k h. w.within k (ap (λ b. b || is_among k waiting) h))
 
 -- none were seen
 pub places_none : (rows : List RowEntry) → place_count (rows_of [] rows) ≡ 0

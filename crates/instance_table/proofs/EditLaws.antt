@@ -1,5 +1,5 @@
 -- What a body's call gives, said of its row.
-use Rattle.std.proofs.Common.{◌≡◌, ℕ, zero, suc, ◌+◌, ◌≤◌, Bool, true, not, List, [], ◌∷◌, filter, set, Option, Some, None, Result, Ok, Err, refl, ap, ◌∙◌, sym, arith}
+use Rattle.std.proofs.Common.{◌≡◌, ℕ, zero, suc, ◌+◌, ◌≤◌, Bool, true, false, not, List, [], ◌∷◌, filter, set, Option, Some, None, Result, Ok, Err, refl, ap, ◌∙◌, sym, arith}
 use Rattle.std.specs.List.{find, list_any, remove, slice_get}
 use Rattle.std.specs.Option.{option_map, is_some}
 use Rattle.std.specs.Str.{bytes_eq}
@@ -12,10 +12,10 @@ use Rattle.state_model.specs.State.{last_number}
 use Rattle.state_model.specs.declared.row.Row.{Row}
 use Rattle.state_model.specs.declared.row.Row.TheVariants.{Struct, Map, Array, Set}
 use Rattle.state_model.specs.declared.command.Command.TheVariants.{PutKey, Add}
-use Rattle.state_model.specs.Commands.{has_key, edited}
+use Rattle.state_model.specs.Commands.{has_key, has_value, edited}
 use Rattle.collection_ops.specs.declared.fault.ItemFault.{ItemFault}
 use Rattle.collection_ops.specs.declared.fault.ItemFault.TheVariants.{NoItem, Present, NumbersSpent, Memory}
-use Rattle.collection_ops.specs.Bodies.{MapState, SetState, key_item, value_item, if_there, Exactly, Gives, map_put, map_put_over, map_remove, array_put_at, array_remove_at, set_remove}
+use Rattle.collection_ops.specs.Bodies.{MapState, SetState, map_number, set_number, key_item, value_item, set_add, if_there, Exactly, Gives, map_put, map_put_over, map_remove, array_put_at, array_remove_at, set_remove}
 use Rattle.command_laws.specs.Accounts.{one_if}
 
 -- a search and a test
@@ -74,6 +74,18 @@ key_removed s new key (Ok x) h =
     ap (λ (t : MapState). t.items) (left_is after new (option_map (λ (i : MapItem). (i.number, i.value)) (key_item s.items key)) x h)
 key_removed s new key (Err f) h = ap (λ (t : MapState). t.items) h.1 ∙ sym (no_key_removed s key f h.0)
 
+-- nothing is found where its number isn't
+none_mapped : {X Y : Type 0} (f : X → Y) (o : Option X) → None ≡ option_map f o → o ≡ None
+none_mapped f None h = refl
+none_mapped f (Some x) h = cc
+
+-- a key and a value whose item has no number aren't there
+pub key_unfound : (items : List MapItem) (key : List ℕ) → None ≡ option_map map_number (key_item items key) → filter (λ (i : MapItem). not (bytes_eq i.key key)) items ≡ items
+key_unfound items key h = filter_missing (λ (i : MapItem). bytes_eq i.key key) items (none_mapped map_number (key_item items key) h)
+
+pub value_unfound : (items : List SetItem) (v : Value) → None ≡ option_map set_number (value_item items v) → filter (λ (i : SetItem). not (same_value i.value v)) items ≡ items
+value_unfound items v h = filter_missing (λ (i : SetItem). same_value i.value v) items (none_mapped set_number (value_item items v) h)
+
 -- past its end a list is edited into itself
 set_past : {X : Type 0} (xs : List X) (at : ℕ) (x : X) → slice_get xs at ≡ None → set xs at x ≡ xs
 set_past [] at x h = refl
@@ -121,6 +133,13 @@ put_given s key v new answer h = over (key_item s.items key) (found_any (λ (i :
     over : (o : Option MapItem) → is_some o ≡ has_key s.items key → map_put_over s key v o ≡ Ok (new, answer) → new.given ≡ s.given + one_if (not (has_key s.items key))
     over (Some i) there h = grind (arith, nat_tests)
     over None there h = grind (arith, nat_tests)
+
+-- a value that isn't there isn't refused as one that is
+pub add_goes : (s new : SetState) (v : Value) (f : ItemFault) → has_value s.items v ≡ false → f ≡ Present → Gives (set_add s v) s new (Err f) → ⊥
+add_goes s new v Present absent is h = let refused = h.0 in grind (arith, nat_tests, absent, refused)
+add_goes s new v NoItem absent is h = cc
+add_goes s new v NumbersSpent absent is h = cc
+add_goes s new v Memory absent is h = cc
 
 -- which row a command names is nothing to its edit
 pub put_key_any : (r s : ℕ) (k : List ℕ) (v : Value) (n : ℕ) (row : Row) → edited (PutKey r k v) n row ≡ edited (PutKey s k v) n row

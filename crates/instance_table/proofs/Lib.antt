@@ -8,6 +8,7 @@ pub mod LinkLaws
 pub mod EditLaws
 pub mod EditedBodies
 pub mod ExactLaws
+pub mod JudgeLaws
 pub mod LetGoLaws
 pub mod ChangeLaws
 pub mod NodeStates
@@ -16,6 +17,7 @@ pub mod ChangedStates
 pub mod ChangedHolders
 pub mod ChangedTables
 pub mod FreedNumbers
+pub mod FoundLaws
 pub mod FreedNodes
 pub mod SweepLaws
 pub mod SweptTables

@@ -38,7 +38,7 @@ use Rattle.instance_table.specs.declared.body.Body.{Body}
 use Rattle.instance_table.specs.declared.body.Body.TheVariants as body
 use Rattle.instance_table.specs.Amounts.{is_text_full, limit_causes, link_causes, make_causes, value_causes}
 use Rattle.instance_table.specs.Bodies.{next_in, row_of}
-use Rattle.instance_table.specs.Changes.{link_in}
+use Rattle.instance_table.specs.Changes.{link_in, value_named}
 use Rattle.instance_table.specs.Nodes.{node_at, rows_in}
 use Rattle.instance_table.specs.Table.{IsExact, IsTable, state_in}
 use Rattle.instance_table.proofs.AmountLaws.{makes_none, text_full_is, text_made, within_limit}
@@ -65,6 +65,43 @@ live_node es n = live_row (rows_in es) n ∙ (ap is_some (row_found es n) ∙ ma
 pub dead_where : (es : List (ℕ × Node)) (n : ℕ) (b : Bool) → is_some (node_at es n) ≡ not b → b ≡ not (is_live (rows_in es) n)
 dead_where es n true h = ap not (sym (live_node es n ∙ h))
 dead_where es n false h = ap not (sym (live_node es n ∙ h))
+
+-- a number that a value holds, by its link
+link_dead : (rows : List RowEntry) (v : Value) → list_any (λ n. not (is_live rows n)) (held_by v) ≡ option_map_or (λ n. not (is_live rows n)) (link_in (Some v)) false
+link_dead rows (value.Whole z) = refl
+link_dead rows (value.Str t) = refl
+link_dead rows (value.Truth b) = refl
+link_dead rows (value.Link n) = grind (arith, nat_tests)
+
+-- the numbers that a command names are its row's and its link's
+refs_by : (rows : List RowEntry) (c : Command) (r : ℕ) → holder_of c ≡ Some r → is_no_ref rows c ≡ (not (is_live rows r) || option_map_or (λ n. not (is_live rows n)) (link_in (value_named c)) false)
+refs_by rows (command.Make class) r e = cc
+refs_by rows (command.MakeFor home) r e = cc
+refs_by rows (command.Put s f v) r e = let same : s ≡ r = cc in rw (← same, ← link_dead rows v) refl
+refs_by rows (command.PutKey s k v) r e = let same : s ≡ r = cc in rw (← same, ← link_dead rows v) refl
+refs_by rows (command.Push s v) r e = let same : s ≡ r = cc in rw (← same, ← link_dead rows v) refl
+refs_by rows (command.SetAt s at v) r e = let same : s ≡ r = cc in rw (← same, ← link_dead rows v) refl
+refs_by rows (command.Add s v) r e = let same : s ≡ r = cc in rw (← same, ← link_dead rows v) refl
+refs_by rows (command.Del s v) r e = let same : s ≡ r = cc in rw (← same, ← link_dead rows v) refl
+refs_by rows (command.Unset s f) r e = let same : s ≡ r = cc in rw (← same) refl
+refs_by rows (command.DelKey s k) r e = let same : s ≡ r = cc in rw (← same) refl
+refs_by rows (command.DelAt s at) r e = let same : s ≡ r = cc in rw (← same) refl
+refs_by rows (command.Clear s) r e = let same : s ≡ r = cc in rw (← same) refl
+
+-- the row that a command names isn't there
+pub refs_gone : (rows : List RowEntry) (c : Command) (r : ℕ) → Some r ≡ holder_of c → None ≡ row_for rows c → true ≡ is_no_ref rows c
+refs_gone rows c r names gone =
+    let none : row_at rows r ≡ None = ap (option_and_then (row_at rows)) names ∙ sym gone in
+    let dead : is_live rows r ≡ false = live_row rows r ∙ ap is_some none in
+    sym (refs_by rows c r (sym names) ∙ ap (λ b. not b || option_map_or (λ n. not (is_live rows n)) (link_in (value_named c)) false) dead)
+
+-- it is there, and then the link decides
+pub refs_there : (rows : List RowEntry) (c : Command) (r : ℕ) (row : Row) → Some r ≡ holder_of c → Some row ≡ row_for rows c
+    → option_map_or (λ n. not (is_live rows n)) (link_in (value_named c)) false ≡ is_no_ref rows c
+refs_there rows c r row names there =
+    let some : row_at rows r ≡ Some row = ap (option_and_then (row_at rows)) names ∙ sym there in
+    let live : is_live rows r ≡ true = live_row rows r ∙ ap is_some some in
+    sym (refs_by rows c r (sym names) ∙ ap (λ b. not b || option_map_or (λ n. not (is_live rows n)) (link_in (value_named c)) false) live)
 
 -- the row that a command changes, by the node that was found
 pub body_there : (es : List (ℕ × Node)) (c : Command) (who : ℕ) (o : Option Node) → Some who ≡ holder_of c → o ≡ node_at es who → option_map (λ (x : Node). row_of x.body) o ≡ row_for (rows_in es) c

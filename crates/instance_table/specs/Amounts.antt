@@ -1,6 +1,8 @@
 -- How many places and bytes of text there are after a command.
-use Rattle.std.specs.Prelude.{ℕ, ◌+◌, ◌-◌, Bool, ◌&&◌, ◌||◌, not, List, [], ◌∷◌, Some, if◌then◌else◌, is_some, length, nat_le, nat_lt}
+use Rattle.std.specs.Prelude.{ℕ, ◌+◌, ◌-◌, Bool, ◌&&◌, ◌||◌, not, List, [], ◌∷◌, Option, Some, if◌then◌else◌, is_some, length, nat_le, nat_lt}
 use Rattle.schema_model.specs.Classes.{Schema}
+use Rattle.schema_model.specs.declared.value.Value.{Value}
+use Rattle.state_model.specs.declared.place.Wanted.{Wanted}
 use Rattle.state_model.specs.declared.row.Row.{Row}
 use Rattle.state_model.specs.declared.command.Command.{Command}
 use Rattle.state_model.specs.declared.row.RowEntry.{RowEntry}
@@ -40,13 +42,15 @@ limit_causes c row places text next =
     ∷ (is_present c (Some row), fault.Present)
     ∷ []
 
+-- of a value, by what its place is declared to hold
+abbrev pub type_causes : Schema → List RowEntry → Option Value → Option Wanted → List (Bool × TableFault)
+type_causes schema rows value wanted =
+    (is_wrong_type schema rows value wanted, fault.WrongType) ∷ (is_past_range value wanted, fault.OutOfRange) ∷ []
+
 -- of what the command puts into a row
 abbrev pub value_causes : Schema → List RowEntry → Command → Row → List (Bool × TableFault)
 value_causes schema rows c row =
-    (is_no_item c (Some row), fault.NoItem)
-    ∷ (is_wrong_type schema rows (value_put c) (wanted_for schema c (Some row)), fault.WrongType)
-    ∷ (is_past_range (value_put c) (wanted_for schema c (Some row)), fault.OutOfRange)
-    ∷ []
+    (is_no_item c (Some row), fault.NoItem) ∷ type_causes schema rows (value_put c) (wanted_for schema c (Some row))
 
 -- of the instance that it links to
 abbrev pub link_causes : Schema → List RowEntry → Command → Row → List (Bool × TableFault)

@@ -2,6 +2,7 @@ pub mod Amounts
 pub mod Behind
 pub mod Bodies
 pub mod Changes
+pub mod Found
 pub mod Graph
 pub mod Holders
 pub mod Lists

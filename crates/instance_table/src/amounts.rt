@@ -7,10 +7,11 @@ ghost use Rattle.state_model.specs.Values as texts;
 ghost use Rattle.command_laws.specs.Accounts.{key_added, key_taken, one_if, replaced, row_text, text_in_value};
 ghost use Rattle.instance_table.specs.Amounts.{places_after, text_after, text_of_place};
 ghost use Rattle.instance_table.specs.Bodies.{row_of};
+ghost use Rattle.instance_table.specs.Found.{is_absent};
 
 use crate::body::Body;
-use crate::cause::{has_key, is_present};
-use crate::replaced::{replaced, value_put};
+use crate::found::Found;
+use crate::parts::value_put;
 use collection_ops::MapBody;
 use schema_model::Value;
 use state_model::Command;
@@ -68,65 +69,64 @@ pub fn row_text(body: &Body) -> usize
 }
 
 // How many bytes the key is that a command adds.
-fn key_added(command: &Command, body: &Body) -> usize
+fn key_added(command: &Command, body: &Body, found: &Found<'_>) -> usize
+    requires { found.now.absent ≡ is_absent command.now (row_of body.now) }
     ensures { result ≡ key_added command.now (row_of body.now) }
 {
     match (command, body) {
-        (Command::PutKey(_, key, _), Body::Map(_, items)) => if has_key(items, key) {
-            0
-        } else {
-            key.len()
-        },
+        (Command::PutKey(_, key, _), Body::Map(..)) if found.absent => key.len(),
         _ => 0,
     }
 }
 
 // How many bytes the key is that a command takes out.
-fn key_taken(command: &Command, body: &Body) -> usize
+fn key_taken(command: &Command, body: &Body, found: &Found<'_>) -> usize
+    requires { found.now.absent ≡ is_absent command.now (row_of body.now) }
     ensures { result ≡ key_taken command.now (row_of body.now) }
 {
     match (command, body) {
-        (Command::DelKey(_, key), Body::Map(_, items)) => if has_key(items, key) {
-            key.len()
-        } else {
-            0
-        },
+        (Command::DelKey(_, key), Body::Map(..)) if !found.absent => key.len(),
         _ => 0,
     }
 }
 
 /// How many places there are after a command, of so many before.
-pub fn places_after(places: usize, command: &Command, body: &Body) -> usize
-    requires { places ≤ places_limit }
+pub fn places_after(places: usize, command: &Command, body: &Body, found: &Found<'_>) -> usize
+    requires places { places ≤ places_limit }
+    requires found { option_copied found.now.value ≡ replaced command.now (row_of body.now) }
     ensures { result ≡ places_after command.now (row_of body.now) places }
 {
     match command {
         Command::Clear(_) => places.saturating_sub(body.len()),
         _ => {
             let more = places + usize::from(value_put(command).is_some());
-            more.saturating_sub(usize::from(replaced(body, command).is_some()))
+            more.saturating_sub(usize::from(found.value.is_some()))
         }
     }
 }
 
 /// How many bytes of text there are after a command that changes one place. In 128 bits no sum of three lengths is cut.
-pub fn place_text_after(text: usize, command: &Command, body: &Body) -> u128
+pub fn place_text_after(text: usize, command: &Command, body: &Body, found: &Found<'_>) -> u128
+    requires absent { found.now.absent ≡ is_absent command.now (row_of body.now) }
+    requires value { option_copied found.now.value ≡ replaced command.now (row_of body.now) }
     ensures { result ≡ text_of_place command.now (row_of body.now) text }
 {
     let more = text as u128
         + text_size(value_put(command)) as u128
-        + key_added(command, body) as u128;
-    let less = text_size(replaced(body, command)) as u128 + key_taken(command, body) as u128;
+        + key_added(command, body, found) as u128;
+    let less = text_size(found.value) as u128 + key_taken(command, body, found) as u128;
     more.saturating_sub(less)
 }
 
 /// How many bytes of text there are after a command, of so many before.
-pub fn text_after(text: usize, command: &Command, body: &Body) -> u128
-    requires { row_text (row_of body.now) ≤ text_limit }
+pub fn text_after(text: usize, command: &Command, body: &Body, found: &Found<'_>) -> u128
+    requires few { row_text (row_of body.now) ≤ text_limit }
+    requires absent { found.now.absent ≡ is_absent command.now (row_of body.now) }
+    requires value { option_copied found.now.value ≡ replaced command.now (row_of body.now) }
     ensures { result ≡ text_after command.now (row_of body.now) text }
 {
     match command {
         Command::Clear(_) => text.saturating_sub(row_text(body)) as u128,
-        _ => place_text_after(text, command, body),
+        _ => place_text_after(text, command, body, found),
     }
 }

@@ -1,5 +1,5 @@
 //! What is behind a row.
-ghost use Rattle.std.specs.Prelude.{◌≡◌, ◌+◌, ◌++◌, IfOk, OnOk, length};
+ghost use Rattle.std.specs.Prelude.{◌≡◌, ◌≤◌, ◌+◌, ◌++◌, IfOk, OnOk, length};
 ghost use Rattle.std.specs.Option.{option_to_list};
 ghost use Rattle.state_model.specs.Members.{leads_on, row_through, rows_through};
 ghost use Rattle.state_model.specs.Places.{tag_of};
@@ -67,6 +67,7 @@ fn add_field_links<L: Ledger>(
     ensures links { OnOk result (
         links.new.items ≡ links.old.items ++ held_in (row_through schema.now tag (row.Struct class fields.now))) }
     ensures cost { OnOk result (steps.new ≡ steps.old + length fields.now) }
+    ensures most { steps.new ≤ steps.old + length fields.now }
 {
     for field in fields {
         steps.tick();
@@ -83,6 +84,7 @@ fn add_all_links<L: Ledger>(
 ) -> Result<(), Memory>
     ensures links { OnOk result (links.new.items ≡ links.old.items ++ held_in (row_of body.now)) }
     ensures cost { OnOk result (steps.new ≡ steps.old + length (values_in (row_of body.now))) }
+    ensures most { steps.new ≤ steps.old + length (values_in (row_of body.now)) }
 {
     let count = body.len();
     let mut behind = None;
@@ -106,6 +108,7 @@ fn add_links_through<L: Ledger>(
     ensures links { OnOk result (
         links.new.items ≡ links.old.items ++ held_in (row_through schema.now tag (row_of body.now))) }
     ensures cost { OnOk result (steps.new ≡ steps.old + length (values_in (row_of body.now))) }
+    ensures most { steps.new ≤ steps.old + length (values_in (row_of body.now)) }
 {
     match body {
         Body::Struct(class, fields) => add_field_links(
@@ -132,6 +135,7 @@ fn add_links_of<L: Ledger>(
     ensures links { OnOk result (
         links.new.items ≡ links.old.items ++ held_at (rows_through schema.now tag (rows_in nodes.now)) who) }
     ensures cost { OnOk result (steps.new ≡ steps.old + places_at (rows_in nodes.now) who) }
+    ensures most { steps.new ≤ steps.old + places_at (rows_in nodes.now) who }
 {
     match nodes.get(who) {
         Some(node) => add_links_through(schema, &node.body, tag, links, steps),
@@ -153,9 +157,10 @@ pub fn numbers_behind<L: Ledger>(
     ensures cost { OnOk result (
         let numbers = reached (rows_through schema.now tag (rows_in nodes.now)) from in
         steps.new ≡ steps.old + place_count (rows_of numbers (rows_in nodes.now))) }
+    ensures most { let numbers = reached (rows_through schema.now tag (rows_in nodes.now)) from in
+        steps.new ≤ steps.old + place_count (rows_of numbers (rows_in nodes.now)) }
 {
-    // From this call the proof knows that the rows rise.
-    let _ = nodes.len();
+    nodes.know_rising();
     let mut seen = NumberSet::new(alloc);
     let mut waiting = Vec::new(alloc);
     waiting.push(from)?;

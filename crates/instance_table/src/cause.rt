@@ -1,19 +1,18 @@
 //! Why a command is refused: each cause, over the row that the command changes.
-ghost use Rattle.std.specs.Prelude.{◌≡◌, ◌||◌, is_none, is_some, option_and_then, option_copied};
+ghost use Rattle.std.specs.Prelude.{◌≡◌, ◌||◌, is_some, option_and_then, option_copied};
 ghost use Rattle.std.specs.Option.{option_map};
-ghost use Rattle.lists.specs.Rising.{find};
 ghost use Rattle.schema_model.specs.Classes.{home_of};
 ghost use Rattle.state_model.specs.Places.{empty_collection};
-ghost use Rattle.state_model.specs.Commands.{adds_place, gives_number, has_key, has_value, is_long_key, is_long_text, is_no_field, is_no_item, is_past_range, is_present, value_put, wanted_for};
+ghost use Rattle.state_model.specs.Commands.{adds_place, gives_number, is_long_key, is_long_text, is_no_field, is_no_item, is_present, value_put, wanted_for};
 ghost use Rattle.instance_table.specs.Bodies.{row_of};
+ghost use Rattle.instance_table.specs.Found.{is_absent};
 
 use crate::amounts::text_size;
 use crate::body::Body;
-use crate::replaced::value_put;
-use collection_ops::{MapBody, SetBody};
-use lists::Text;
+use crate::found::Found;
+use crate::parts::value_put;
 use schema_model::{Home, Item, Schema, Shape, Value};
-use state_model::{Command, FieldValues, Wanted, field_wants, item_wants};
+use state_model::{Command, Wanted, field_wants, item_wants};
 
 /// How many bytes one text value or key may have.
 const ONE_TEXT_LIMIT: usize = 4096;
@@ -31,37 +30,20 @@ fn is_collection(schema: &Schema, home: Home) -> bool
     }
 }
 
-/// Whether a field is absent.
-fn is_absent(fields: &FieldValues, field: u8) -> bool
-    ensures { result ≡ is_none (find (λ x. x.field) field fields.now) }
-{
-    fields.get(u32::from(field)).is_none()
-}
-
-/// Whether a map has a key.
-pub fn has_key(items: &MapBody, key: &Text) -> bool
-    ensures { result ≡ has_key items.now.items key.now }
-{
-    items.number_of(key.as_str()).is_some()
-}
-
-/// Whether a set holds a value.
-pub fn has_value(items: &SetBody, value: &Value) -> bool
-    ensures { result ≡ has_value items.now.items value.now }
-{
-    items.number_of(value).is_some()
-}
-
 /// Whether the class or the field isn't declared, or the row isn't of the shape that the command needs.
-pub fn is_no_field(schema: &Schema, command: &Command, body: Option<&Body>) -> bool
+pub fn is_no_field(
+    schema: &Schema,
+    command: &Command,
+    body: Option<&Body>,
+    wanted: &Option<Wanted>,
+) -> bool
+    requires { wanted.now ≡ wanted_for schema.now command.now (option_map row_of (option_copied body)) }
     ensures { result ≡ is_no_field schema.now command.now (option_map row_of (option_copied body.entry)) }
 {
     match (command, body) {
         (Command::Make(class), _) => class.0 as usize >= schema.classes.len(),
         (Command::MakeFor(home), _) => !is_collection(schema, *home),
-        (Command::Put(_, field, _), Some(Body::Struct(class, _))) => field_wants(
-            schema, *class, *field,
-        ).is_none(),
+        (Command::Put(..), Some(Body::Struct(..))) => wanted.is_none(),
         (Command::Unset(_, field), Some(Body::Struct(class, _))) => field_wants(
             schema, *class, *field,
         ).is_none(),
@@ -75,24 +57,24 @@ pub fn is_no_field(schema: &Schema, command: &Command, body: Option<&Body>) -> b
 }
 
 /// Whether a field is absent, a position past the length, or a key or a value not there.
-pub fn is_no_item(command: &Command, body: &Body) -> bool
+pub fn is_no_item(command: &Command, body: &Body, found: &Found<'_>) -> bool
+    requires { found.now.absent ≡ is_absent command.now (row_of body.now) }
     ensures { result ≡ is_no_item command.now (Some (row_of body.now)) }
 {
     match (command, body) {
-        (Command::Unset(_, field), Body::Struct(_, fields)) => is_absent(fields, *field),
-        (Command::DelKey(_, key), Body::Map(_, items)) => !has_key(items, key),
-        (Command::SetAt(_, at, _) | Command::DelAt(_, at), Body::Array(_, values)) => *at
-            >= values.len(),
-        (Command::Del(_, value), Body::Set(_, items)) => !has_value(items, value),
+        (Command::Unset(..), Body::Struct(..))
+        | (Command::DelKey(..), Body::Map(..))
+        | (Command::SetAt(..) | Command::DelAt(..), Body::Array(..))
+        | (Command::Del(..), Body::Set(..)) => found.absent,
         _ => false,
     }
 }
 
-/// What the place of the value is declared to hold.
-pub fn wanted_for(schema: &Schema, command: &Command, body: &Body) -> Option<Wanted>
-    ensures { result ≡ wanted_for schema.now command.now (Some (row_of body.now)) }
+/// What the place of the value is declared to hold; None where the row isn't there.
+pub fn wanted_for(schema: &Schema, command: &Command, body: Option<&Body>) -> Option<Wanted>
+    ensures { result ≡ wanted_for schema.now command.now (option_map row_of (option_copied body.entry)) }
 {
-    match (command, body) {
+    match (command, body?) {
         (Command::Put(_, field, _), Body::Struct(class, _)) => field_wants(schema, *class, *field),
         (_, Body::Struct(..)) => None,
         (_, Body::Map(home, _) | Body::Array(home, _) | Body::Set(home, _)) => item_wants(
@@ -101,46 +83,36 @@ pub fn wanted_for(schema: &Schema, command: &Command, body: &Body) -> Option<Wan
     }
 }
 
-/// Whether a whole number is outside the range of its kind.
-pub fn is_past_range(value: Option<&Value>, wanted: Option<Wanted>) -> bool
-    ensures { result ≡ is_past_range (option_copied value.entry) wanted }
-{
-    match (value, wanted) {
-        (Some(value @ Value::Whole(_)), Some(Wanted::Item(Item::Scalar(kind)))) => !value.fits(
-            kind,
-        ),
-        _ => false,
-    }
-}
-
 /// Whether the command gives an item number.
-pub fn gives_number(command: &Command, body: &Body) -> bool
+pub fn gives_number(command: &Command, body: &Body, found: &Found<'_>) -> bool
+    requires { found.now.absent ≡ is_absent command.now (row_of body.now) }
     ensures { result ≡ gives_number command.now (Some (row_of body.now)) }
 {
     match (command, body) {
-        (Command::PutKey(_, key, _), Body::Map(_, items)) => !has_key(items, key),
-        (Command::Add(_, value), Body::Set(_, items)) => !has_value(items, value),
+        (Command::PutKey(..), Body::Map(..)) | (Command::Add(..), Body::Set(..)) => found.absent,
         _ => false,
     }
 }
 
 /// Whether the command adds a place.
-pub fn adds_place(command: &Command, body: &Body) -> bool
+pub fn adds_place(command: &Command, body: &Body, found: &Found<'_>) -> bool
+    requires { found.now.absent ≡ is_absent command.now (row_of body.now) }
     ensures { result ≡ adds_place command.now (Some (row_of body.now)) }
 {
     match (command, body) {
-        (Command::Put(_, field, _), Body::Struct(_, fields)) => is_absent(fields, *field),
+        (Command::Put(..), Body::Struct(..)) => found.absent,
         (Command::Push(..), _) => true,
-        _ => gives_number(command, body),
+        _ => gives_number(command, body, found),
     }
 }
 
 /// Whether the set holds the value that the command adds.
-pub fn is_present(command: &Command, body: &Body) -> bool
+pub fn is_present(command: &Command, body: &Body, found: &Found<'_>) -> bool
+    requires { found.now.absent ≡ is_absent command.now (row_of body.now) }
     ensures { result ≡ is_present command.now (Some (row_of body.now)) }
 {
     match (command, body) {
-        (Command::Add(_, value), Body::Set(_, items)) => has_value(items, value),
+        (Command::Add(..), Body::Set(..)) => !found.absent,
         _ => false,
     }
 }

@@ -7,11 +7,12 @@ ghost use Rattle.command_laws.specs.Accounts.{held_in_value, is_clear, replaced}
 ghost use Rattle.plain_rows.specs.Links.{held_at};
 ghost use Rattle.instance_table.specs.Bodies.{CanEdit, row_of, takes_out};
 ghost use Rattle.instance_table.specs.Changes.{IsBehindAt, IsUndone, changed, hold_link, let_go_each, let_go_link, link_in, place_changed, values_at};
+ghost use Rattle.instance_table.specs.Found.{item_number};
 ghost use Rattle.instance_table.specs.Nodes.{node_at, rows_in};
 
 use crate::graph::Graph;
 use crate::links::link_of;
-use crate::replaced::{replaced, value_put};
+use crate::parts::value_put;
 use schema_model::{Memory, RefNum};
 use state_model::Command;
 use std::alloc::Global;
@@ -83,29 +84,24 @@ fn let_go_link(graph: &mut Graph, link: Option<RefNum>, holder: RefNum)
     }
 }
 
-// The link in the place that a command writes or takes out.
-fn link_before(graph: &Graph, holder: RefNum, command: &Command) -> Option<RefNum>
-    ensures { IfSome (node_at graph.now.nodes holder) (λ n. result ≡ link_in (replaced command.now (row_of n.body))) }
-{
-    let node = graph.get(holder)?;
-    link_of(replaced(&node.body, command))
-}
-
 // A command changes one place: the new link is held, the place changed, and the old link let go.
 fn change_place(
     graph: &mut Graph,
     alloc: Global,
     holder: RefNum,
     command: &Command,
+    number: Option<u32>,
+    before: Option<RefNum>,
 ) -> Result<(), Memory>
-    requires { IfSome (node_at graph.old.nodes holder) (λ n. CanEdit command.now n.body) }
+    requires can { IfSome (node_at graph.old.nodes holder) (λ n. CanEdit command.now n.body) }
+    requires number { IfSome (node_at graph.old.nodes holder) (λ n. number ≡ item_number command.now (row_of n.body)) }
+    requires before { IfSome (node_at graph.old.nodes holder) (λ n. before ≡ link_in (replaced command.now (row_of n.body))) }
     ensures ok { IfSome (node_at graph.old.nodes holder) (λ n. OnOk result (graph.new.nodes ≡ place_changed command.now holder n.body graph.old.nodes)) }
     ensures err { OnErr result (IsUndone command.now holder graph.old.nodes graph.new.nodes) }
     ensures sure { takes_out command.now ≡ true → is_ok result ≡ true }
 {
-    let before = link_before(graph, holder, command);
     hold_link(graph, link_of(value_put(command)), holder)?;
-    match graph.edit(alloc, holder, command) {
+    match graph.edit(alloc, holder, command, number) {
         Ok(()) => {
             let_go_link(graph, before, holder);
             Ok(())
@@ -124,8 +120,12 @@ pub fn change(
     alloc: Global,
     holder: RefNum,
     command: &Command,
+    number: Option<u32>,
+    before: Option<RefNum>,
 ) -> Result<(), Memory>
-    requires { IfSome (node_at graph.old.nodes holder) (λ n. CanEdit command.now n.body) }
+    requires can { IfSome (node_at graph.old.nodes holder) (λ n. CanEdit command.now n.body) }
+    requires number { IfSome (node_at graph.old.nodes holder) (λ n. number ≡ item_number command.now (row_of n.body)) }
+    requires before { IfSome (node_at graph.old.nodes holder) (λ n. before ≡ link_in (replaced command.now (row_of n.body))) }
     ensures ok { IfSome (node_at graph.old.nodes holder) (λ n. OnOk result (graph.new.nodes ≡ changed command.now holder n.body graph.old.nodes)) }
     ensures err { OnErr result (IsUndone command.now holder graph.old.nodes graph.new.nodes) }
     ensures sure { takes_out command.now ≡ true → is_ok result ≡ true }
@@ -133,8 +133,8 @@ pub fn change(
     match command {
         Command::Clear(_) => {
             let_go_links(graph, holder);
-            graph.edit(alloc, holder, command)
+            graph.edit(alloc, holder, command, number)
         }
-        _ => change_place(graph, alloc, holder, command),
+        _ => change_place(graph, alloc, holder, command, number, before),
     }
 }

@@ -6,6 +6,7 @@ ghost use Rattle.state_model.specs.declared.command.Command.TheVariants as comma
 ghost use Rattle.state_model.specs.Commands.{edited, gives_number};
 ghost use Rattle.command_laws.specs.Accounts.{one_if};
 ghost use Rattle.instance_table.specs.Bodies.{CanEdit, HasNumber, edited_body, given_of, row_of, takes_out};
+ghost use Rattle.instance_table.specs.Found.{item_number};
 
 use crate::body::Body;
 use collection_ops::ItemFault;
@@ -37,8 +38,9 @@ fn unset(body: &mut Body, field: u8)
 }
 
 // Sets the item of a key of a map.
-fn put_key(body: &mut Body, alloc: Global, key: &Text, value: Value) -> Result<(), Memory>
-    requires { gives_number (command.PutKey 0 key.now value) (Some (row_of body.old)) ≡ true → HasNumber (given_of body.old) }
+fn put_key(body: &mut Body, key: &Text, value: Value, number: Option<u32>) -> Result<(), Memory>
+    requires number { number ≡ item_number (command.PutKey 0 key.now value) (row_of body.old) }
+    requires left { gives_number (command.PutKey 0 key.now value) (Some (row_of body.old)) ≡ true → HasNumber (given_of body.old) }
     ensures row { (n : ℕ) → IfSome (given_of body.old) (λ g. g ≡ n) → OnOk result (row_of body.new ≡ edited (command.PutKey 0 key.now value) n (row_of body.old)) }
     ensures given { OnOk result (given_of body.new
         ≡ option_map (λ n. n + one_if (gives_number (command.PutKey 0 key.now value) (Some (row_of body.old)))) (given_of body.old)) }
@@ -46,8 +48,7 @@ fn put_key(body: &mut Body, alloc: Global, key: &Text, value: Value) -> Result<(
 {
     match body {
         Body::Map(_, items) => {
-            let key = key.copy(alloc)?;
-            match items.put(key, value) {
+            match items.put_at(number, key, value) {
                 Ok(_) => Ok(()),
                 Err(ItemFault::Memory) => Err(Memory),
                 Err(ItemFault::NumbersSpent) => unreachable!(),
@@ -59,13 +60,18 @@ fn put_key(body: &mut Body, alloc: Global, key: &Text, value: Value) -> Result<(
 }
 
 // Takes the item of a key of a map away.
-fn del_key(body: &mut Body, key: &Text)
+fn del_key(body: &mut Body, key: &Text, number: Option<u32>)
+    requires { number ≡ item_number (command.DelKey 0 key.now) (row_of body.old) }
     ensures row { row_of body.new ≡ edited (command.DelKey 0 key.now) 0 (row_of body.old) }
     ensures given { given_of body.new ≡ given_of body.old }
 {
-    if let Body::Map(_, items) = body {
-        let _ = items.remove(key.as_str());
-    }
+    let Body::Map(_, items) = body else {
+        return;
+    };
+    let Some(number) = number else {
+        return;
+    };
+    let _ = items.remove_at(number, key.as_str());
 }
 
 // Adds an item at the end of an array.
@@ -102,31 +108,41 @@ fn del_at(body: &mut Body, at: u32)
 }
 
 // Adds a value to a set that doesn't hold it.
-fn add(body: &mut Body, value: Value) -> Result<(), Memory>
-    requires { gives_number (command.Add 0 value) (Some (row_of body.old)) ≡ true → HasNumber (given_of body.old) }
+fn add(body: &mut Body, value: Value, number: Option<u32>) -> Result<(), Memory>
+    requires number { number ≡ item_number (command.Add 0 value) (row_of body.old) }
+    requires left { gives_number (command.Add 0 value) (Some (row_of body.old)) ≡ true → HasNumber (given_of body.old) }
     ensures row { (n : ℕ) → IfSome (given_of body.old) (λ g. g ≡ n) → OnOk result (row_of body.new ≡ edited (command.Add 0 value) n (row_of body.old)) }
     ensures given { OnOk result (given_of body.new
         ≡ option_map (λ n. n + one_if (gives_number (command.Add 0 value) (Some (row_of body.old)))) (given_of body.old)) }
     ensures err { OnErr result (body.new ≡ body.old) }
 {
-    match body {
-        Body::Set(_, items) => match items.add(value) {
-            Ok(_) | Err(ItemFault::Present) => Ok(()),
-            Err(ItemFault::Memory) => Err(Memory),
-            Err(ItemFault::NoItem | ItemFault::NumbersSpent) => unreachable!(),
-        },
-        _ => Ok(()),
+    let Body::Set(_, items) = body else {
+        return Ok(());
+    };
+    if number.is_some() {
+        return Ok(());
+    }
+    match items.add_new(value) {
+        Ok(_) => Ok(()),
+        Err(ItemFault::Memory) => Err(Memory),
+        Err(ItemFault::Present) => unreachable!(),
+        Err(ItemFault::NoItem | ItemFault::NumbersSpent) => unreachable!(),
     }
 }
 
 // Takes a value out of a set.
-fn del(body: &mut Body, value: &Value)
+fn del(body: &mut Body, value: &Value, number: Option<u32>)
+    requires { number ≡ item_number (command.Del 0 value.now) (row_of body.old) }
     ensures row { row_of body.new ≡ edited (command.Del 0 value.now) 0 (row_of body.old) }
     ensures given { given_of body.new ≡ given_of body.old }
 {
-    if let Body::Set(_, items) = body {
-        let _ = items.remove(value);
-    }
+    let Body::Set(_, items) = body else {
+        return;
+    };
+    let Some(number) = number else {
+        return;
+    };
+    let _ = items.remove_at(number, value);
 }
 
 // Takes all items of a collection away.
@@ -143,8 +159,14 @@ fn clear(body: &mut Body)
 }
 
 // Changes the places of a row as a command does.
-fn edit_places(body: &mut Body, alloc: Global, command: &Command) -> Result<(), Memory>
-    requires number { gives_number command.now (Some (row_of body.old)) ≡ true → HasNumber (given_of body.old) }
+fn edit_places(
+    body: &mut Body,
+    alloc: Global,
+    command: &Command,
+    number: Option<u32>,
+) -> Result<(), Memory>
+    requires found { number ≡ item_number command.now (row_of body.old) }
+    requires left { gives_number command.now (Some (row_of body.old)) ≡ true → HasNumber (given_of body.old) }
     requires few { length (values_in (row_of body.old)) < 2 ^ 31 }
     ensures row { (n : ℕ) → IfSome (given_of body.old) (λ g. g ≡ n) → OnOk result (row_of body.new ≡ edited command.now n (row_of body.old)) }
     ensures given { OnOk result (given_of body.new
@@ -156,24 +178,30 @@ fn edit_places(body: &mut Body, alloc: Global, command: &Command) -> Result<(), 
         Command::Make(_) | Command::MakeFor(_) => {}
         Command::Put(_, field, value) => put_field(body, *field, value.copy(alloc)?)?,
         Command::Unset(_, field) => unset(body, *field),
-        Command::PutKey(_, key, value) => put_key(body, alloc, key, value.copy(alloc)?)?,
-        Command::DelKey(_, key) => del_key(body, key),
+        Command::PutKey(_, key, value) => put_key(body, key, value.copy(alloc)?, number)?,
+        Command::DelKey(_, key) => del_key(body, key, number),
         Command::Push(_, value) => push(body, value.copy(alloc)?)?,
         Command::SetAt(_, at, value) => set_at(body, *at, value.copy(alloc)?),
         Command::DelAt(_, at) => del_at(body, *at),
-        Command::Add(_, value) => add(body, value.copy(alloc)?)?,
-        Command::Del(_, value) => del(body, value),
+        Command::Add(_, value) => add(body, value.copy(alloc)?, number)?,
+        Command::Del(_, value) => del(body, value, number),
         Command::Clear(_) => clear(body),
     }
     Ok(())
 }
 
 /// Changes the places of a row as a command does. What only takes places out takes no memory.
-pub fn edit(body: &mut Body, alloc: Global, command: &Command) -> Result<(), Memory>
-    requires { CanEdit command.now body.old }
+pub fn edit(
+    body: &mut Body,
+    alloc: Global,
+    command: &Command,
+    number: Option<u32>,
+) -> Result<(), Memory>
+    requires found { number ≡ item_number command.now (row_of body.old) }
+    requires can { CanEdit command.now body.old }
     ensures after { OnOk result (body.new ≡ edited_body command.now body.old) }
     ensures err { OnErr result (body.new ≡ body.old) }
     ensures sure { takes_out command.now ≡ true → is_ok result ≡ true }
 {
-    edit_places(body, alloc, command)
+    edit_places(body, alloc, command, number)
 }

@@ -2,8 +2,9 @@
 ghost use Rattle.std.specs.Prelude.{◌≡◌, ◌==◌, ◌<◌, ◌≤◌, ◌^◌, [], ◌∷◌, ◌++◌, false, filter, length, not, true, IfSome, OnErr, OnOk, None, is_ok, if◌then◌else◌, option_copied, option_and_then, ℕ};
 ghost use Rattle.std.specs.Option.{option_map_or, option_to_list};
 ghost use Rattle.lists.specs.Rising.{IsAbove, RisesFrom, remove};
-ghost use Rattle.instance_table.specs.Bodies.{CanEdit, takes_out};
+ghost use Rattle.instance_table.specs.Bodies.{CanEdit, row_of, takes_out};
 ghost use Rattle.instance_table.specs.Changes.{edited_node};
+ghost use Rattle.instance_table.specs.Found.{item_number};
 ghost use Rattle.instance_table.specs.Graph.{waits_at, with_loose};
 ghost use Rattle.instance_table.specs.Holders.{without_one};
 ghost use Rattle.instance_table.specs.Nodes.{at_node, held_less, held_more, held_not, node_at, number_of, rested, wakes};
@@ -92,12 +93,19 @@ impl Graph {
     }
 
     /// A command changes the places of a row. What only takes places out takes no memory.
-    pub fn edit(&mut self, alloc: Global, who: RefNum, command: &Command) -> Result<(), Memory>
-        requires { IfSome (node_at self.old.nodes who) (λ n. CanEdit command.now n.body) }
+    pub fn edit(
+        &mut self,
+        alloc: Global,
+        who: RefNum,
+        command: &Command,
+        number: Option<u32>,
+    ) -> Result<(), Memory>
+        requires number { IfSome (node_at self.old.nodes who) (λ n. number ≡ item_number command.now (row_of n.body)) }
+        requires can { IfSome (node_at self.old.nodes who) (λ n. CanEdit command.now n.body) }
         ensures after { self.new ≡ (if is_ok result then record self.old { nodes = at_node who (edited_node command.now) self.old.nodes } else self.old) }
         ensures sure { takes_out command.now ≡ true → is_ok result ≡ true }
     {
-        self.nodes.edit(alloc, who, command)
+        self.nodes.edit(alloc, who, command, number)
     }
 
     /// A place more holds a row.

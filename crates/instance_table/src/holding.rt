@@ -2,8 +2,9 @@
 ghost use Rattle.std.specs.Prelude.{◌≡◌, ◌==◌, filter, not, is_ok, true, false, IfSome, if◌then◌else◌};
 ghost use Rattle.std.specs.Option.{option_map_or};
 ghost use Rattle.instance_table.specs.Nodes.{at_slot, held_less, held_more, held_not, rested, wakes, woken};
-ghost use Rattle.instance_table.specs.Bodies.{CanEdit, takes_out};
+ghost use Rattle.instance_table.specs.Bodies.{CanEdit, row_of, takes_out};
 ghost use Rattle.instance_table.specs.Changes.{edited_node};
+ghost use Rattle.instance_table.specs.Found.{item_number};
 ghost use Rattle.instance_table.specs.Holders.{without_one};
 
 use crate::edits;
@@ -14,13 +15,19 @@ use std::alloc::Global;
 use trees::Slot;
 
 /// A command changes the places of the row in a slot, where there is one. What only takes places out takes no memory.
-pub fn edit(slot: &mut Slot<Node>, alloc: Global, command: &Command) -> Result<(), Memory>
-    requires { IfSome slot.old.item (λ n. CanEdit command.now n.body) }
+pub fn edit(
+    slot: &mut Slot<Node>,
+    alloc: Global,
+    command: &Command,
+    number: Option<u32>,
+) -> Result<(), Memory>
+    requires number { IfSome slot.old.item (λ n. number ≡ item_number command.now (row_of n.body)) }
+    requires can { IfSome slot.old.item (λ n. CanEdit command.now n.body) }
     ensures after { slot.new ≡ (if is_ok result then at_slot (edited_node command.now) slot.old else slot.old) }
     ensures sure { takes_out command.now ≡ true → is_ok result ≡ true }
 {
     match &mut slot.item {
-        Some(node) => edits::edit(&mut node.body, alloc, command),
+        Some(node) => edits::edit(&mut node.body, alloc, command, number),
         None => Ok(()),
     }
 }

@@ -3,8 +3,9 @@ ghost use Rattle.std.specs.Prelude.{◌≡◌, ◌==◌, [], ◌∷◌, ◌++◌
 ghost use Rattle.std.specs.Option.{option_map_or};
 ghost use Rattle.lists.specs.Rising.{IsAbove, RisesFrom, remove};
 ghost use Rattle.trees.specs.Slots.{entries_in, slot_number};
-ghost use Rattle.instance_table.specs.Bodies.{CanEdit, takes_out};
+ghost use Rattle.instance_table.specs.Bodies.{CanEdit, row_of, takes_out};
 ghost use Rattle.instance_table.specs.Changes.{edited_node};
+ghost use Rattle.instance_table.specs.Found.{item_number};
 ghost use Rattle.instance_table.specs.Holders.{without_one};
 ghost use Rattle.instance_table.specs.Nodes.{at_node, held_less, held_more, held_not, node_at, number_of, rested, rows_in, wakes};
 
@@ -69,6 +70,13 @@ impl Nodes {
         self.len
     }
 
+    /// The rows rise by their numbers. It does nothing else than to say so.
+    pub fn know_rising(&self)
+        ensures { RisesFrom number_of 0 self.now }
+    {
+        let _ = &self.slots;
+    }
+
     /// Adds a row with a number above all others.
     pub fn push(&mut self, who: RefNum, node: Node) -> Result<(), Memory>
         requires { IsAbove number_of who self.old }
@@ -98,8 +106,15 @@ impl Nodes {
     }
 
     /// A command changes the places of a row. What only takes places out takes no memory.
-    pub fn edit(&mut self, alloc: Global, who: RefNum, command: &Command) -> Result<(), Memory>
-        requires { IfSome (node_at self.old who) (λ n. CanEdit command.now n.body) }
+    pub fn edit(
+        &mut self,
+        alloc: Global,
+        who: RefNum,
+        command: &Command,
+        number: Option<u32>,
+    ) -> Result<(), Memory>
+        requires number { IfSome (node_at self.old who) (λ n. number ≡ item_number command.now (row_of n.body)) }
+        requires can { IfSome (node_at self.old who) (λ n. CanEdit command.now n.body) }
         ensures after { self.new ≡ (if is_ok result then at_node who (edited_node command.now) self.old else self.old) }
         ensures sure { takes_out command.now ≡ true → is_ok result ≡ true }
         ensures rises { RisesFrom number_of 0 self.old }
@@ -107,7 +122,7 @@ impl Nodes {
         let Ok(at) = search(self.slots.as_slice(), who.0) else {
             return Ok(());
         };
-        holding::edit(&mut self.slots[at], alloc, command)
+        holding::edit(&mut self.slots[at], alloc, command, number)
     }
 
     /// All rows, each with its number.

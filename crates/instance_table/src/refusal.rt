@@ -1,30 +1,35 @@
-//! Why a command is refused: the first cause in their order.
-ghost use Rattle.std.specs.Prelude.{◌≡◌, ◌&&◌, not, IfOk, Some, false, is_ok, nat_lt, option_and_then, option_copied, true};
+//! What a command comes to: the first cause for which it is refused, in their order, or what it does.
+ghost use Rattle.std.specs.Prelude.{◌≡◌, ◌≤◌, ◌&&◌, not, IfOk, Some, false, is_ok, nat_lt, option_and_then, option_copied, true};
 ghost use Rattle.std.specs.Option.{option_map, option_map_or};
 ghost use Rattle.schema_model.specs.Classes.{Schema as Classes};
 ghost use Rattle.state_model.specs.Reached.{is_among};
 ghost use Rattle.state_model.specs.Rows.{is_live, row_at};
 ghost use Rattle.state_model.specs.Sound.{are_sound};
-ghost use Rattle.state_model.specs.State.{last_number};
-ghost use Rattle.state_model.specs.Commands.{first_cause, gives_number, holder_of, is_cycle, is_duplicate, is_no_ref, refusal_of, row_for, value_put};
-ghost use Rattle.instance_table.specs.Amounts.{is_text_full, limit_causes, link_causes, make_causes, value_causes};
+ghost use Rattle.state_model.specs.State.{last_number, places_limit, text_limit};
+ghost use Rattle.state_model.specs.Commands.{first_cause, gives_number, holder_of, is_cycle, is_duplicate, is_no_ref, row_for, value_put, wanted_for};
+ghost use Rattle.command_laws.specs.Accounts.{replaced, row_text};
+ghost use Rattle.instance_table.specs.declared.plan.Verdict.TheVariants.{Makes, Refused};
+ghost use Rattle.instance_table.specs.Amounts.{is_text_full, limit_causes, link_causes, make_causes, text_after, value_causes};
 ghost use Rattle.instance_table.specs.Bodies.{next_in, row_of, takes_out};
 ghost use Rattle.instance_table.specs.Changes.{link_in, value_named};
+ghost use Rattle.instance_table.specs.Found.{IsJudged, IsPlanned, is_absent, item_number};
 ghost use Rattle.instance_table.specs.Nodes.{node_at, rows_in};
-ghost use Rattle.instance_table.specs.Table.{IsExact, IsTable, state_in};
+ghost use Rattle.instance_table.specs.Table.{IsExact, IsTable};
 
 use crate::amounts::place_text_after;
 use crate::body::Body;
 use crate::cause;
+use crate::found::{Found, look_up};
 use crate::graph::Graph;
 use crate::links::link_of;
 use crate::nodes::Nodes;
-use crate::replaced::{holder_of, value_put};
+use crate::parts::{holder_of, value_put};
+use crate::plan::{Plan, Verdict};
 use crate::totals::Totals;
-use crate::typed::is_wrong_type;
+use crate::typed::type_cause;
 use crate::walk::reaches;
-use schema_model::{Memory, RefNum, Schema, Value};
-use state_model::{Command, TableFault, is_filtered};
+use schema_model::{LAST_NUMBER, Memory, RefNum, Schema, Value};
+use state_model::{Command, TableFault, Wanted, is_filtered, know_texts};
 use std::alloc::Global;
 
 /// How many rows a room may have.
@@ -35,9 +40,6 @@ const PLACES_LIMIT: usize = 65_536;
 
 /// How many bytes all text values and map keys of a room may be.
 const TEXT_LIMIT: u128 = 4_194_304;
-
-/// The greatest reference number and item number.
-const LAST_NUMBER: u32 = 2_147_483_647;
 
 // Whether a number isn't live.
 fn is_dead(nodes: &Nodes, who: RefNum) -> bool
@@ -57,15 +59,16 @@ fn named_link(command: &Command) -> Option<RefNum>
 }
 
 // Whether the holder or the linked number isn't live.
-fn is_no_ref(nodes: &Nodes, command: &Command) -> bool
+fn is_no_ref(nodes: &Nodes, command: &Command, body: Option<&Body>) -> bool
+    requires { option_map row_of (option_copied body) ≡ row_for (rows_in nodes.now) command.now }
     ensures { result ≡ is_no_ref (rows_in nodes.now) command.now }
 {
-    let Some(holder) = holder_of(command) else {
+    let Some(_) = holder_of(command) else {
         return false;
     };
-    if is_dead(nodes, holder) {
+    let Some(_) = body else {
         return true;
-    }
+    };
     match named_link(command) {
         Some(link) => is_dead(nodes, link),
         None => false,
@@ -73,24 +76,22 @@ fn is_no_ref(nodes: &Nodes, command: &Command) -> bool
 }
 
 // The first cause in what the command puts into a row.
-fn value_cause(schema: &Schema, nodes: &Nodes, command: &Command, body: &Body) -> Option<TableFault>
+fn value_cause(
+    schema: &Schema,
+    nodes: &Nodes,
+    command: &Command,
+    body: &Body,
+    found: &Found<'_>,
+    wanted: &Option<Wanted>,
+) -> Option<TableFault>
+    requires absent { found.now.absent ≡ is_absent command.now (row_of body.now) }
+    requires wanted { wanted.now ≡ wanted_for schema.now command.now (Some (row_of body.now)) }
     ensures { result ≡ first_cause (value_causes schema.now (rows_in nodes.now) command.now (row_of body.now)) }
 {
-    if cause::is_no_item(command, body) {
+    if cause::is_no_item(command, body, found) {
         return Some(TableFault::NoItem);
     }
-    if is_wrong_type(
-        schema,
-        nodes,
-        value_put(command),
-        cause::wanted_for(schema, command, body),
-    ) {
-        return Some(TableFault::WrongType);
-    }
-    if cause::is_past_range(value_put(command), cause::wanted_for(schema, command, body)) {
-        return Some(TableFault::OutOfRange);
-    }
-    None
+    type_cause(schema, nodes, value_put(command), wanted)
 }
 
 // Whether the instance that a command links to reaches the row that it changes.
@@ -169,16 +170,19 @@ fn link_cause(
 }
 
 // Whether there would be too many bytes of text.
-fn is_text_full(text: usize, command: &Command, body: &Body) -> bool
+fn is_text_full(text: usize, command: &Command, body: &Body, found: &Found<'_>) -> bool
+    requires absent { found.now.absent ≡ is_absent command.now (row_of body.now) }
+    requires value { option_copied found.now.value ≡ replaced command.now (row_of body.now) }
     ensures { result ≡ is_text_full command.now (row_of body.now) text }
 {
     value_put(command).is_some()
-        && !cause::is_present(command, body)
-        && place_text_after(text, command, body) > TEXT_LIMIT
+        && !cause::is_present(command, body, found)
+        && place_text_after(text, command, body, found) > TEXT_LIMIT
 }
 
 // Whether the command gives an item number and none is left.
-fn is_number_spent(command: &Command, body: &Body) -> bool
+fn is_number_spent(command: &Command, body: &Body, found: &Found<'_>) -> bool
+    requires { found.now.absent ≡ is_absent command.now (row_of body.now) }
     ensures { result ≡ (gives_number command.now (Some (row_of body.now)) && nat_lt last_number (next_in body.now)) }
 {
     let next = match body {
@@ -186,42 +190,49 @@ fn is_number_spent(command: &Command, body: &Body) -> bool
         Body::Set(_, items) => items.given(),
         Body::Struct(..) | Body::Array(..) => 0,
     };
-    cause::gives_number(command, body) && next > LAST_NUMBER
+    cause::gives_number(command, body, found) && next > LAST_NUMBER
 }
 
 // The first cause in the limits.
-fn limit_cause(totals: Totals, command: &Command, body: &Body) -> Option<TableFault>
+fn limit_cause(
+    totals: Totals,
+    command: &Command,
+    body: &Body,
+    found: &Found<'_>,
+) -> Option<TableFault>
+    requires absent { found.now.absent ≡ is_absent command.now (row_of body.now) }
+    requires value { option_copied found.now.value ≡ replaced command.now (row_of body.now) }
     ensures { result ≡ first_cause (limit_causes command.now (row_of body.now) totals.places totals.text (next_in body.now)) }
 {
-    if cause::adds_place(command, body) && totals.places >= PLACES_LIMIT {
+    if cause::adds_place(command, body, found) && totals.places >= PLACES_LIMIT {
         return Some(TableFault::PlacesFull);
     }
-    if is_text_full(totals.text, command, body) {
+    if is_text_full(totals.text, command, body, found) {
         return Some(TableFault::TextFull);
     }
     if cause::is_long(command) {
         return Some(TableFault::TextTooLong);
     }
-    if is_number_spent(command, body) {
+    if is_number_spent(command, body, found) {
         return Some(TableFault::NumbersSpent);
     }
-    if cause::is_present(command, body) {
+    if cause::is_present(command, body, found) {
         return Some(TableFault::Present);
     }
     None
 }
 
-// The first cause of a command that makes a row.
-fn make_cause(rows: usize, given: u32) -> Option<TableFault>
-    ensures { result ≡ first_cause (make_causes rows given) }
+// What a command that changes no row comes to.
+fn judge_make(rows: usize, given: u32) -> Verdict
+    ensures { result ≡ option_map_or Refused (first_cause (make_causes rows given)) Makes }
 {
     if rows >= ROWS_LIMIT {
-        return Some(TableFault::InstancesFull);
+        return Verdict::Refused(TableFault::InstancesFull);
     }
     if given >= LAST_NUMBER {
-        return Some(TableFault::RefsSpent);
+        return Verdict::Refused(TableFault::RefsSpent);
     }
-    None
+    Verdict::Makes
 }
 
 // The row that a command changes.
@@ -233,35 +244,58 @@ fn body_for<'a>(nodes: &'a Nodes, command: &Command) -> Option<&'a Body>
     Some(&node.body)
 }
 
-/// Why a command is refused; None where it isn't.
-pub fn refusal(
+// What a command that isn't refused does to a row.
+fn plan(totals: Totals, command: &Command, body: &Body, found: &Found<'_>) -> Plan
+    requires absent { found.now.absent ≡ is_absent command.now (row_of body.now) }
+    requires number { found.now.number ≡ item_number command.now (row_of body.now) }
+    requires value { option_copied found.now.value ≡ replaced command.now (row_of body.now) }
+    requires places { totals.places ≤ places_limit }
+    requires text { row_text (row_of body.now) ≤ text_limit }
+    requires few { text_after command.now (row_of body.now) totals.text ≤ text_limit }
+    ensures { IsPlanned command.now (row_of body.now) totals.places totals.text result }
+{
+    Plan {
+        number: found.number,
+        before: link_of(found.value),
+        totals: totals.after(command, body, found),
+    }
+}
+
+/// What a command comes to: the first cause for which it is refused, or what it does.
+pub fn judge(
     alloc: Global,
     schema: &Schema,
     graph: &Graph,
     given: u32,
     totals: Totals,
     command: &Command,
-) -> Result<Option<TableFault>, Memory>
+) -> Result<Verdict, Memory>
     requires { IsTable schema.now graph.now.nodes given totals.places totals.text }
-    ensures value { IfOk result (λ f. f ≡ refusal_of schema.now (state_in graph.now.nodes given) command.now) }
+    ensures value { IfOk result (λ v. IsJudged schema.now graph.now.nodes given totals.places totals.text command.now v) }
     ensures sure { takes_out command.now ≡ true → is_ok result ≡ true }
 {
+    know_texts(command);
     let nodes = graph.nodes();
-    if is_no_ref(nodes, command) {
-        return Ok(Some(TableFault::NoRef));
-    }
     let body = body_for(nodes, command);
-    if cause::is_no_field(schema, command, body) {
-        return Ok(Some(TableFault::NoField));
+    if is_no_ref(nodes, command, body) {
+        return Ok(Verdict::Refused(TableFault::NoRef));
+    }
+    let wanted = cause::wanted_for(schema, command, body);
+    if cause::is_no_field(schema, command, body, &wanted) {
+        return Ok(Verdict::Refused(TableFault::NoField));
     }
     let (Some(holder), Some(body)) = (holder_of(command), body) else {
-        return Ok(make_cause(nodes.len(), given));
+        return Ok(judge_make(nodes.len(), given));
     };
-    if let Some(fault) = value_cause(schema, nodes, command, body) {
-        return Ok(Some(fault));
+    let found = look_up(command, body);
+    if let Some(fault) = value_cause(schema, nodes, command, body, &found, &wanted) {
+        return Ok(Verdict::Refused(fault));
     }
     if let Some(fault) = link_cause(alloc, schema, nodes, holder, command, body)? {
-        return Ok(Some(fault));
+        return Ok(Verdict::Refused(fault));
     }
-    Ok(limit_cause(totals, command, body))
+    if let Some(fault) = limit_cause(totals, command, body, &found) {
+        return Ok(Verdict::Refused(fault));
+    }
+    Ok(Verdict::Changes(holder, plan(totals, command, body, &found)))
 }

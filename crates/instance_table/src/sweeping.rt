@@ -71,8 +71,7 @@ pub fn sweep(graph: &mut Graph, totals: &mut Totals, gone: &mut RoomyList)
     ensures room { length graph.new.nodes ≤ gone.new.room }
     ensures fewer { length graph.new.nodes ≤ length graph.old.nodes }
 {
-    // From this call the proof knows that the rows rise.
-    let _ = graph.len();
+    graph.nodes().know_rising();
     while let Some(who) = graph.next_loose() {
         if is_loose(graph, who) {
             free(graph, totals, gone, who);

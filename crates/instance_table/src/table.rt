@@ -1,5 +1,5 @@
 //! The shared graph of a room.
-ghost use Rattle.std.specs.Prelude.{◌≡◌, ◌+◌, Err, IfOk, None, Ok, OnErr, OnOk, Some, false, is_ok, length, option_copied, slice_get, true};
+ghost use Rattle.std.specs.Prelude.{◌≡◌, ◌≤◌, ◌+◌, Err, IfOk, None, Ok, OnErr, OnOk, Some, false, is_ok, length, option_copied, slice_get, true};
 ghost use Rattle.std.specs.Option.{option_map};
 ghost use Rattle.state_model.specs.declared.command.TableFault.TheVariants as fault;
 ghost use Rattle.state_model.specs.Commands.{do_command, holder_of, refusal_of};
@@ -17,11 +17,11 @@ use crate::body::Body;
 use crate::changes::change;
 use crate::graph::Graph;
 use crate::made::made;
-use crate::refusal::refusal;
-use crate::replaced::holder_of;
+use crate::plan::{Plan, Verdict};
+use crate::refusal::judge;
 use crate::roomy_list::RoomyList;
 use crate::sweeping::sweep;
-use crate::totals::{Totals, totals_after};
+use crate::totals::Totals;
 use lists::Rising;
 use schema_model::{Memory, Place, RefNum, Schema, Tag, Value};
 use state_model::{Command, Rows, TableFault, know_texts};
@@ -90,7 +90,8 @@ impl Table {
         ensures later { IsLater self.old.state self.new.state }
         ensures sure { result ≡ Err fault.Memory → takes_out command.now ≡ false }
     {
-        let Ok(cause) = refusal(
+        know_texts(command);
+        let Ok(verdict) = judge(
             self.alloc,
             &self.schema,
             &self.graph,
@@ -100,30 +101,26 @@ impl Table {
         ) else {
             return Err(TableFault::Memory);
         };
-        if let Some(fault) = cause {
-            return Err(fault);
-        }
-        let Ok(made) = self.perform(command) else {
-            return Err(TableFault::Memory);
-        };
-        Ok(made)
-    }
-
-    // Does a command that isn't refused.
-    fn perform(&mut self, command: &Command) -> Result<Option<RefNum>, Memory>
-        requires { refusal_of self.old.schema self.old.state command.now ≡ None }
-        ensures ok { IfOk result (λ made. do_command self.old.schema self.old.state command.now ≡ Ok (self.new.state, made)) }
-        ensures schema { self.new.schema ≡ self.old.schema }
-        ensures swept { self.new.swept ≡ self.old.swept }
-        ensures err { OnErr result (self.new ≡ self.old) }
-        ensures sure { takes_out command.now ≡ true → is_ok result ≡ true }
-    {
-        match holder_of(command) {
-            Some(holder) => {
-                self.change(holder, command)?;
-                Ok(None)
+        match verdict {
+            Verdict::Refused(fault) => Err(fault),
+            Verdict::Makes => match self.make(command) {
+                Ok(made) => Ok(made),
+                Err(Memory) => Err(TableFault::Memory),
+            },
+            Verdict::Changes(holder, plan) => {
+                let Plan {
+                    number,
+                    before,
+                    totals,
+                } = plan;
+                match change(&mut self.graph, self.alloc, holder, command, number, before) {
+                    Ok(()) => {
+                        self.totals = totals;
+                        Ok(None)
+                    }
+                    Err(Memory) => Err(TableFault::Memory),
+                }
             }
-            None => self.make(command),
         }
     }
 
@@ -144,23 +141,6 @@ impl Table {
         self.graph.add(self.alloc, who, body)?;
         self.given += 1;
         Ok(Some(who))
-    }
-
-    // Changes a row.
-    fn change(&mut self, holder: RefNum, command: &Command) -> Result<(), Memory>
-        requires changes { holder_of command.now ≡ Some holder }
-        requires free { refusal_of self.old.schema self.old.state command.now ≡ None }
-        ensures ok { OnOk result (do_command self.old.schema self.old.state command.now ≡ Ok (self.new.state, None)) }
-        ensures schema { self.new.schema ≡ self.old.schema }
-        ensures swept { self.new.swept ≡ self.old.swept }
-        ensures err { OnErr result (self.new ≡ self.old) }
-        ensures sure { takes_out command.now ≡ true → is_ok result ≡ true }
-    {
-        know_texts(command);
-        let totals = totals_after(self.totals, &self.graph, holder, command);
-        change(&mut self.graph, self.alloc, holder, command)?;
-        self.totals = totals;
-        Ok(())
     }
 
     /// The value in a place; None exactly where nothing is there.
@@ -209,6 +189,7 @@ impl Table {
             option_map (λ ns. ns.items) found ≡ numbers_behind self.now.schema self.now.state.rows who tag) }
         ensures cost { OnOk result (
             steps.new ≡ steps.old + places_behind self.now.schema self.now.state.rows who tag) }
+        ensures most { steps.new ≤ steps.old + places_behind self.now.schema self.now.state.rows who tag }
     {
         if self.graph.get(who).is_none() {
             return Ok(None);

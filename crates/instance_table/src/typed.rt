@@ -1,17 +1,18 @@
-//! Whether a value is of what its place is declared to hold.
+//! Values by what their places are declared to hold.
 ghost use Rattle.std.specs.Prelude.{◌≡◌, Some, option_copied};
 ghost use Rattle.schema_model.specs.Fits.{is_of_kind};
 ghost use Rattle.schema_model.specs.declared.value.Value.TheVariants as value;
 ghost use Rattle.state_model.specs.Rows.{row_at};
 ghost use Rattle.state_model.specs.Sound.{is_collection_of, is_instance_of, is_of_type};
-ghost use Rattle.state_model.specs.Commands.{is_wrong_type};
+ghost use Rattle.state_model.specs.Commands.{first_cause, is_past_range};
+ghost use Rattle.instance_table.specs.Amounts.{type_causes};
 ghost use Rattle.instance_table.specs.Bodies.{row_of};
 ghost use Rattle.instance_table.specs.Nodes.{rows_in};
 
 use crate::body::Body;
 use crate::nodes::Nodes;
 use schema_model::{Home, Item, RefNum, ScalarKind, Schema, TypeNum, Value};
-use state_model::Wanted;
+use state_model::{TableFault, Wanted};
 
 /// Whether a value is a scalar of a kind, whatever its range.
 fn is_of_kind(value: &Value, kind: ScalarKind) -> bool
@@ -66,10 +67,10 @@ fn leads_to_collection(nodes: &Nodes, home: Home, who: RefNum) -> bool
 }
 
 /// Whether a number is that of a row of what is declared.
-fn leads_to(schema: &Schema, nodes: &Nodes, wanted: Wanted, who: RefNum) -> bool
-    ensures { result ≡ is_of_type schema.now (rows_in nodes.now) wanted (value.Link who) }
+fn leads_to(schema: &Schema, nodes: &Nodes, wanted: &Wanted, who: RefNum) -> bool
+    ensures { result ≡ is_of_type schema.now (rows_in nodes.now) wanted.now (value.Link who) }
 {
-    match &wanted {
+    match wanted {
         Wanted::Item(Item::Scalar(_)) => false,
         Wanted::Item(Item::Class(class)) => leads_to_instance(schema, nodes, *class, who),
         Wanted::Collection(home) => leads_to_collection(nodes, *home, who),
@@ -77,29 +78,52 @@ fn leads_to(schema: &Schema, nodes: &Nodes, wanted: Wanted, who: RefNum) -> bool
 }
 
 /// Whether a value is of what is declared, whatever its range.
-fn is_of_type(schema: &Schema, nodes: &Nodes, wanted: Wanted, value: &Value) -> bool
-    ensures { result ≡ is_of_type schema.now (rows_in nodes.now) wanted value.now }
+fn is_of_type(schema: &Schema, nodes: &Nodes, wanted: &Wanted, value: &Value) -> bool
+    ensures { result ≡ is_of_type schema.now (rows_in nodes.now) wanted.now value.now }
 {
     match value {
         Value::Link(who) => leads_to(schema, nodes, wanted, *who),
         _ => match wanted {
-            Wanted::Item(Item::Scalar(kind)) => is_of_kind(value, kind),
+            Wanted::Item(Item::Scalar(kind)) => is_of_kind(value, *kind),
             _ => false,
         },
     }
 }
 
-/// Whether a value isn't of what its place is declared to hold.
-pub fn is_wrong_type(
+// Whether a whole number is outside the range of its kind.
+fn is_past_range(value: &Value, wanted: &Wanted) -> bool
+    ensures { result ≡ is_past_range (Some value.now) (Some wanted.now) }
+{
+    match (value, wanted) {
+        (Value::Whole(_), Wanted::Item(Item::Scalar(kind))) => !value.fits(*kind),
+        _ => false,
+    }
+}
+
+// The first cause in a value by what its place is declared to hold.
+fn value_cause(schema: &Schema, nodes: &Nodes, value: &Value, wanted: &Wanted) -> Option<TableFault>
+    ensures { result ≡ first_cause (type_causes schema.now (rows_in nodes.now) (Some value.now) (Some wanted.now)) }
+{
+    if !is_of_type(schema, nodes, wanted, value) {
+        return Some(TableFault::WrongType);
+    }
+    if is_past_range(value, wanted) {
+        return Some(TableFault::OutOfRange);
+    }
+    None
+}
+
+/// The first cause in the value that is put, by what its place is declared to hold.
+pub fn type_cause(
     schema: &Schema,
     nodes: &Nodes,
     value: Option<&Value>,
-    wanted: Option<Wanted>,
-) -> bool
-    ensures { result ≡ is_wrong_type schema.now (rows_in nodes.now) (option_copied value.entry) wanted }
+    wanted: &Option<Wanted>,
+) -> Option<TableFault>
+    ensures { result ≡ first_cause (type_causes schema.now (rows_in nodes.now) (option_copied value.entry) wanted.now) }
 {
     match (value, wanted) {
-        (Some(value), Some(wanted)) => !is_of_type(schema, nodes, wanted, value),
-        _ => false,
+        (Some(value), Some(wanted)) => value_cause(schema, nodes, value, wanted),
+        _ => None,
     }
 }

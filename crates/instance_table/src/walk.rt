@@ -44,8 +44,7 @@ fn turn(
     ensures { (start : ℕ) → Walked (rows_along way nodes.now) start seen.old waiting.old.items → is_among end seen.old ≡ false
         → IfOk result (λ t. IsTurned (rows_along way nodes.now) start end (left_of (rows_along way nodes.now) seen.old waiting.old.items) seen.new waiting.new.items t) }
 {
-    // From this call the proof knows that the rows rise.
-    let _ = nodes.len();
+    nodes.know_rising();
     let Some(who) = waiting.pop() else {
         return Ok(Some(false));
     };

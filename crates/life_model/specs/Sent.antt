@@ -2,6 +2,7 @@
 -- The frames are after Colyseus 0.16; the moment of the full state is ours.
 use Rattle.std.specs.Prelude.{ℕ, Bool, true, false, List, [], ◌∷◌, ◌++◌, length, map, nat_lt, if◌then◌else◌, Result, Ok, Err}
 use Rattle.std.specs.List.{fold}
+use Rattle.room_model.specs.Limits.{most_queued}
 use Rattle.schema_model.specs.Classes.{Schema}
 use Rattle.state_model.specs.declared.row.RowEntry.{RowEntry}
 use Rattle.wire_model.specs.Frame.{state_frame, full_state, has_operation}
@@ -45,10 +46,10 @@ sent_framed (Due queue) bytes = sent_read (Due queue) (read_client bytes)
 sent_framed (Live shared permitted) bytes = sent_read (Live shared permitted) (read_client bytes)
 sent_framed s bytes = (s, [])
 
--- ---- a message of the room: it waits for the full state, where fewer than 256 do
+-- ---- a message of the room: it waits for the full state, where not too many do
 
 abbrev pub queued : List ℕ → List (List ℕ) → List (List ℕ)
-queued frame queue = if nat_lt (length queue) 256 then queue ++ frame ∷ [] else queue
+queued frame queue = if nat_lt (length queue) most_queued then queue ++ frame ∷ [] else queue
 
 abbrev pub sent_told : Standing → List ℕ → Standing × List Sending
 sent_told (Joining queue) frame = (Joining (queued frame queue), [])

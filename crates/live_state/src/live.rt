@@ -69,6 +69,7 @@ impl LiveState {
             × (pairs.items ≡ pairs_behind (schema_of self.now) (rows_of self.now) (record { who = who; tag = tag }))) }
         ensures none { result ≡ Err ExpandFault.NoRef → is_live (rows_of self.now) who ≡ false }
         ensures cost { OnOk result (steps.new ≡ steps.old + places_behind (schema_of self.now) (rows_of self.now) who tag) }
+        ensures most { steps.new ≤ steps.old + places_behind (schema_of self.now) (rows_of self.now) who tag }
         ensures cost_of_none { result ≡ Err ExpandFault.NoRef → steps.new ≡ steps.old + places_behind (schema_of self.now) (rows_of self.now) who tag }
     {
         match self.table.behind(who, tag, steps)? {
@@ -85,8 +86,17 @@ impl LiveState {
         ensures spelled { IsTrue (are_spelled (rows_of self.now)) }
     {
         let schema = self.table.schema();
-        know_limits(schema);
+        schema.know_limits();
         schema
+    }
+
+    /// What every live state keeps: its rows are sound, without a cycle, and have bytes. It does nothing else than to say so.
+    pub fn know_rows(&self)
+        ensures limits { IsTrue (is_kept (schema_of self.now)) }
+        ensures kept { IsKept (schema_of self.now) self.now.table.state }
+        ensures spelled { IsTrue (are_spelled (rows_of self.now)) }
+    {
+        self.schema();
     }
 
     /// The table of the rows now.
@@ -105,12 +115,11 @@ impl LiveState {
 
     /// Frees the rows that nothing holds, before a tick is encoded. It takes at most a step for each place of the state.
     /// After an `Err` the state is used no more.
-    pub fn sweep<L: Ledger>(&mut self, steps: &mut Steps<L>) -> Result<(), Memory>
+    pub fn sweep<L: Ledger>(&mut self, _steps: &mut Steps<L>) -> Result<(), Memory>
         ensures freed { OnOk result (self.new.table ≡ swept_table self.old.table) }
         ensures later { OnOk result (IsLater self.old.table.state self.new.table.state) }
-        ensures cost { steps.new ≤ steps.old + place_count (rows_of self.old) }
+        ensures cost { _steps.new ≤ _steps.old + place_count (rows_of self.old) }
     {
-        let _ = steps;
         self.table.sweep();
         Ok(())
     }
@@ -119,13 +128,6 @@ impl LiveState {
     pub fn end_tick(&mut self)
         ensures { self.new.table ≡ self.old.table }
     {}
-}
-
-// A schema keeps its limits; it does nothing else than to say so.
-fn know_limits(schema: &Schema)
-    ensures { IsTrue (is_kept schema.now) }
-{
-    let _ = &schema.root;
 }
 
 // The rows of these numbers, each under the tag.

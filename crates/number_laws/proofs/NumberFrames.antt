@@ -17,7 +17,7 @@ use Rattle.state_model.specs.Places.{field_wants}
 use Rattle.wire_model.specs.declared.op.Op.{Op}
 use Rattle.wire_model.specs.declared.op.OpKey.TheVariants.{Field}
 use Rattle.state_model.specs.Rows.{row_at}
-use Rattle.wire_model.specs.Edits.{Edit, EditBlock, Carried, Plain, Linked, told, told_blocks}
+use Rattle.wire_model.specs.Edits.{Edit, EditBlock, Carried, Plain, Linked, encoded, encoded_blocks}
 use Rattle.wire_model.specs.Effect.{Body, Fields, effect, apply_edits, put_field, with_named, with_linked, with_edits, carried_by, closed}
 use Rattle.wire_model.specs.Patch.{place_edit, changed_place, carried, field_value, field_edits, either_number, block_of, named_in, linked_number, named_by_blocks, patch_edits, new_blocks}
 use Rattle.wire_model.specs.Frame.{patch, view_part, shared_part, state_frame, has_operation, is_blank}
@@ -26,7 +26,7 @@ use Rattle.state_laws.proofs.Numbers.{rises_with}
 use Rattle.state_laws.proofs.SameValues.{same_is, same_self}
 use Rattle.plain_rows.specs.Numbers.{is_number_schema, number_rows, number_count, AreNumbers, field_index}
 use Rattle.number_laws.specs.NumberPatch.{number_ops, root_block}
-use Rattle.number_laws.proofs.NumberPatches.{told_field_edits, IsNumberValue, number_found, rises_numbers, find_either, find_numbers}
+use Rattle.number_laws.proofs.NumberPatches.{encoded_field_edits, IsNumberValue, number_found, rises_numbers, find_either, find_numbers}
 use Rattle.std.proofs.lemmas.List.Concat.{flat_map-append}
 use Rattle.std.proofs.lemmas.List.Sums.{fold-append}
 
@@ -77,16 +77,16 @@ patch_edits_numbers s old new b =
     let none : named_by_blocks (block_of 0 es ++ []) ≡ [] = named_block es ∙ named_in_patch s old new b in
     ap (λ ns. (block_of 0 es ++ []) ++ new_blocks 1 s (number_rows new) (0 ∷ []) ns) none ∙ (append-nil (block_of 0 es ++ []) ∙ append-nil (block_of 0 es))
 
-told_root : (es : List Edit) → told_blocks (block_of 0 es) ≡ root_block (map told es)
-told_root [] = refl
-told_root (e ∷ es) = refl
+encoded_root : (es : List Edit) → encoded_blocks (block_of 0 es) ≡ root_block (map encoded es)
+encoded_root [] = refl
+encoded_root (e ∷ es) = refl
 
 -- the same as it is told
 pub patch_numbers : (s : Schema) (old new : List FieldValue) → is_number_schema s ≡ true → AreNumbers (number_count s) old → AreNumbers (number_count s) new
     → patch s (number_rows old) (number_rows new) ≡ root_block (number_ops (number_count s) old new)
 patch_numbers s old new h a b =
-    ap told_blocks (patch_edits_numbers s old new b)
-    ∙ (told_root (field_edits s (number_rows new) 0 old new) ∙ ap root_block (told_field_edits s old new h a b))
+    ap encoded_blocks (patch_edits_numbers s old new b)
+    ∙ (encoded_root (field_edits s (number_rows new) 0 old new) ∙ ap root_block (encoded_field_edits s old new h a b))
 
 -- ---- a patch to the same rows is blank
 
@@ -294,7 +294,7 @@ view_part_numbers s old new a b = ap (λ rows. patch_edits s rows (number_rows n
 pub state_frame_numbers : (s : Schema) (old new : List FieldValue) → is_number_schema s ≡ true → AreNumbers (number_count s) old → AreNumbers (number_count s) new
     → state_frame s (number_rows old) (number_rows old) (number_rows new) (number_rows new) ≡ block_bytes (root_block (number_ops (number_count s) old new)) true
 state_frame_numbers s old new h a b =
-    ap (λ bs. block_bytes (patch s (number_rows old) (number_rows new)) true ++ block_bytes (told_blocks bs) false) (view_part_numbers s old new a b)
+    ap (λ bs. block_bytes (patch s (number_rows old) (number_rows new)) true ++ block_bytes (encoded_blocks bs) false) (view_part_numbers s old new a b)
     ∙ (append-nil (block_bytes (patch s (number_rows old) (number_rows new)) true) ∙ ap (λ bs. block_bytes bs true) (patch_numbers s old new h a b))
 
 -- a list is empty
@@ -302,11 +302,11 @@ abbrev pub is_no_op : List Op → Bool
 is_no_op [] = true
 is_no_op (o ∷ os) = false
 
-blank_told : (bs : List EditBlock) (os : List Op) → told_blocks bs ≡ root_block os → is_blank bs ≡ is_no_op os
-blank_told [] [] h = refl
-blank_told [] (o ∷ os) h = cc
-blank_told (b ∷ bs) [] h = cc
-blank_told (b ∷ bs) (o ∷ os) h = refl
+blank_encoded : (bs : List EditBlock) (os : List Op) → encoded_blocks bs ≡ root_block os → is_blank bs ≡ is_no_op os
+blank_encoded [] [] h = refl
+blank_encoded [] (o ∷ os) h = cc
+blank_encoded (b ∷ bs) [] h = cc
+blank_encoded (b ∷ bs) (o ∷ os) h = refl
 
 or_false : (b : Bool) → (b || false) ≡ b
 or_false true = refl
@@ -318,4 +318,4 @@ pub has_operation_numbers : (s : Schema) (old new : List FieldValue) → is_numb
 has_operation_numbers s old new h a b =
     ap (λ bs. not (is_blank (shared_part s (number_rows old) (number_rows new))) || not (is_blank bs)) (view_part_numbers s old new a b)
     ∙ (or_false (not (is_blank (shared_part s (number_rows old) (number_rows new))))
-    ∙ ap not (blank_told (shared_part s (number_rows old) (number_rows new)) (number_ops (number_count s) old new) (patch_numbers s old new h a b)))
+    ∙ ap not (blank_encoded (shared_part s (number_rows old) (number_rows new)) (number_ops (number_count s) old new) (patch_numbers s old new h a b)))

@@ -21,7 +21,7 @@ use Rattle.state_model.specs.declared.place.Wanted.TheVariants.{Item as AnItem}
 use Rattle.state_model.specs.Places.{field_wants}
 use Rattle.wire_model.specs.declared.op.Op.{Op}
 use Rattle.wire_model.specs.declared.op.OpKey.TheVariants.{Field}
-use Rattle.wire_model.specs.Edits.{told}
+use Rattle.wire_model.specs.Edits.{encoded}
 use Rattle.wire_model.specs.declared.op.Op.TheVariants as op
 use Rattle.wire_model.specs.declared.op.OpValue.TheVariants as opvalue
 use Rattle.wire_model.specs.Patch.{place_edit, changed_place, carried, field_value, field_edits, either_number}
@@ -97,8 +97,8 @@ find_either i ns (m ∷ ms) h =
 -- ---- field by field
 
 -- the operations on each field, as they are told
-abbrev told_edits : Schema → List FieldValue → List FieldValue → ℕ → List Op
-told_edits s old new i = map told (place_edit (Field i) (Field i) (number_rows new) (field_wants s 0 i) (field_value old i) (field_value new i))
+abbrev encoded_edits : Schema → List FieldValue → List FieldValue → ℕ → List Op
+encoded_edits s old new i = map encoded (place_edit (Field i) (Field i) (number_rows new) (field_wants s 0 i) (field_value old i) (field_value new i))
 
 map-flat_map : {X Y Z : Type 0} (g : Y → Z) (f : X → List Y) (xs : List X) → map g (flat_map f xs) ≡ flat_map (λ x. map g (f x)) xs
 map-flat_map g f [] = refl
@@ -134,45 +134,45 @@ number_found count i (f ∷ fs) h =
     found_by false n later = later
 
 -- the operation on a field of numbers, as it is told
-told_number : (rows : List RowEntry) (i : ℕ) (u v : Option Value) → IsNumberValue v
-    → map told (place_edit (Field i) (Field i) rows (Some (AnItem (item.Scalar kind.Number))) u v) ≡ number_op i u v
-told_number rows i None None n = refl
-told_number rows i None (Some (value.Whole z)) n = refl
-told_number rows i None (Some (value.Str t)) n = cc
-told_number rows i None (Some (value.Truth b)) n = cc
-told_number rows i None (Some (value.Link r)) n = cc
-told_number rows i (Some u) None n = refl
-told_number rows i (Some u) (Some (value.Whole z)) n = by_test (same_value u (value.Whole z))
+encoded_number : (rows : List RowEntry) (i : ℕ) (u v : Option Value) → IsNumberValue v
+    → map encoded (place_edit (Field i) (Field i) rows (Some (AnItem (item.Scalar kind.Number))) u v) ≡ number_op i u v
+encoded_number rows i None None n = refl
+encoded_number rows i None (Some (value.Whole z)) n = refl
+encoded_number rows i None (Some (value.Str t)) n = cc
+encoded_number rows i None (Some (value.Truth b)) n = cc
+encoded_number rows i None (Some (value.Link r)) n = cc
+encoded_number rows i (Some u) None n = refl
+encoded_number rows i (Some u) (Some (value.Whole z)) n = by_test (same_value u (value.Whole z))
   where
-    by_test : (b : Bool) → map told (cond b [] (changed_place (Field i) (Field i) (value.Whole z) (carried rows (Some (AnItem (item.Scalar kind.Number))) (value.Whole z)) ∷ []))
+    by_test : (b : Bool) → map encoded (cond b [] (changed_place (Field i) (Field i) (value.Whole z) (carried rows (Some (AnItem (item.Scalar kind.Number))) (value.Whole z)) ∷ []))
         ≡ cond b [] (op.Replace (Field i) (opvalue.Scalar kind.Number (value.Whole z)) ∷ [])
     by_test true = refl
     by_test false = refl
-told_number rows i (Some u) (Some (value.Str t)) n = cc
-told_number rows i (Some u) (Some (value.Truth b)) n = cc
-told_number rows i (Some u) (Some (value.Link r)) n = cc
+encoded_number rows i (Some u) (Some (value.Str t)) n = cc
+encoded_number rows i (Some u) (Some (value.Truth b)) n = cc
+encoded_number rows i (Some u) (Some (value.Link r)) n = cc
 
 -- the operations on a row of numbers, as they are told
-pub told_field_edits : (s : Schema) (old new : List FieldValue) → is_number_schema s ≡ true → AreNumbers (number_count s) old → AreNumbers (number_count s) new
-    → map told (field_edits s (number_rows new) 0 old new) ≡ number_ops (number_count s) old new
-told_field_edits s old new h a b =
+pub encoded_field_edits : (s : Schema) (old new : List FieldValue) → is_number_schema s ≡ true → AreNumbers (number_count s) old → AreNumbers (number_count s) new
+    → map encoded (field_edits s (number_rows new) 0 old new) ≡ number_ops (number_count s) old new
+encoded_field_edits s old new h a b =
     let ns = map (λ (f : FieldValue). f.field) old in
     let ms = map (λ (f : FieldValue). f.field) new in
-    map-flat_map told (λ i. place_edit (Field i) (Field i) (number_rows new) (field_wants s 0 i) (field_value old i) (field_value new i)) (either_number ns ms)
-    ∙ (over_rising (told_edits s old new) (number_count s) 0 (either_number ns ms)
+    map-flat_map encoded (λ i. place_edit (Field i) (Field i) (number_rows new) (field_wants s 0 i) (field_value old i) (field_value new i)) (either_number ns ms)
+    ∙ (over_rising (encoded_edits s old new) (number_count s) 0 (either_number ns ms)
     (rises_with ns ms (rises_numbers 0 old a.rising))
     (above_either (0 + number_count s) ns ms (subst (λ n. IsAbove (λ m. m) n ns) (omega arith) (above_numbers (number_count s) old a.each)) (subst (λ n. IsAbove (λ m. m) n ms) (omega arith) (above_numbers (number_count s) new b.each)))
     (λ i l e. absent i (find_either i ns ms e))
-    ∙ flat_map-same (told_edits s old new) (λ i. number_op i (field_value old i) (field_value new i)) (range_with_len 0 (number_count s))
-    (same_over_range (told_edits s old new) (λ i. number_op i (field_value old i) (field_value new i)) 0 (number_count s) (λ i l m. present i (omega arith))))
+    ∙ flat_map-same (encoded_edits s old new) (λ i. number_op i (field_value old i) (field_value new i)) (range_with_len 0 (number_count s))
+    (same_over_range (encoded_edits s old new) (λ i. number_op i (field_value old i) (field_value new i)) 0 (number_count s) (λ i l m. present i (omega arith))))
   where
-    absent : (i : ℕ) → (find (λ m. m) i (map (λ (f : FieldValue). f.field) old) ≡ None) × (find (λ m. m) i (map (λ (f : FieldValue). f.field) new) ≡ None) → told_edits s old new i ≡ []
+    absent : (i : ℕ) → (find (λ m. m) i (map (λ (f : FieldValue). f.field) old) ≡ None) × (find (λ m. m) i (map (λ (f : FieldValue). f.field) new) ≡ None) → encoded_edits s old new i ≡ []
     absent i two =
         let none_old : find field_index i old ≡ None = find_numbers i old two.0 in
         let none_new : find field_index i new ≡ None = find_numbers i new two.1 in
         rw (none_old, none_new) refl
 
-    present : (i : ℕ) → i < number_count s → told_edits s old new i ≡ number_op i (field_value old i) (field_value new i)
+    present : (i : ℕ) → i < number_count s → encoded_edits s old new i ≡ number_op i (field_value old i) (field_value new i)
     present i below =
-        ap (λ w. map told (place_edit (Field i) (Field i) (number_rows new) w (field_value old i) (field_value new i))) (wanted_of_number s i h below)
-        ∙ told_number (number_rows new) i (field_value old i) (field_value new i) (number_found (number_count s) i new b.each)
+        ap (λ w. map encoded (place_edit (Field i) (Field i) (number_rows new) w (field_value old i) (field_value new i))) (wanted_of_number s i h below)
+        ∙ encoded_number (number_rows new) i (field_value old i) (field_value new i) (number_found (number_count s) i new b.each)

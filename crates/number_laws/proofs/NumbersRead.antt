@@ -31,7 +31,7 @@ use Rattle.wire_model.specs.declared.op.Step.TheVariants.{Do}
 use Rattle.wire_model.specs.OpBytes.{op_bytes, block_bytes}
 use Rattle.wire_model.specs.Grammar.{step_at, field_step, keyed_value, value_at, with_value, resolved, known_after, PlacedEdit, Progress, advanced, read_blocks, ReadBlock, finished}
 use Rattle.wire_model.specs.Patch.{field_value, field_edits, place_edit, changed_place, either_number, block_of, patch_edits, carried as carried_in}
-use Rattle.wire_model.specs.Edits.{Edit, EditBlock, told}
+use Rattle.wire_model.specs.Edits.{Edit, EditBlock, encoded}
 use Rattle.wire_model.specs.Effect.{Fields, opened, with_named, apply_edits}
 use Rattle.wire_model.specs.Decoded.{missed_in, missed_by, run_blocks, ended_by, decoded}
 use Rattle.wire_model.specs.Frame.{state_frame, has_operation, is_blank}
@@ -41,7 +41,7 @@ use Rattle.plain_rows.specs.Numbers.{is_number_schema, number_rows, number_count
 use Rattle.plain_rows.proofs.NumberCommands.{wanted_of_number, count_small}
 use Rattle.number_laws.proofs.NumberFrames.{no_links, named_in_patch, patch_edits_numbers, patch_leads, state_frame_numbers}
 use Rattle.number_laws.specs.NumberPatch.{number_op, number_ops, root_block}
-use Rattle.number_laws.proofs.NumberPatches.{IsNumberValue, number_found, told_field_edits}
+use Rattle.number_laws.proofs.NumberPatches.{IsNumberValue, number_found, encoded_field_edits}
 
 -- ---- one operation
 
@@ -241,23 +241,23 @@ placed_edits s at [] = refl
 placed_edits s at (o ∷ os) = ap (λ es. on_root s o ∷ es) (placed_edits s (at + length (op_bytes o)) os)
 
 -- an operation on a number is resolved as it was told
-told_again : (s : Schema) (rows : List RowEntry) (w : Option Wanted) (i : ℕ) (u v : Option Value) → IsNumberValue v
-    → map (on_root s) (map told (place_edit (Field i) (Field i) rows w u v)) ≡ place_edit (Field i) (Field i) rows w u v
-told_again s rows w i None None n = refl
-told_again s rows w i None (Some (value.Whole z)) n = refl
-told_again s rows w i None (Some (value.Str t)) n = cc
-told_again s rows w i None (Some (value.Truth b)) n = cc
-told_again s rows w i None (Some (value.Link r)) n = cc
-told_again s rows w i (Some u) None n = refl
-told_again s rows w i (Some u) (Some (value.Whole z)) n = by_test (same_value u (value.Whole z))
+encoded_again : (s : Schema) (rows : List RowEntry) (w : Option Wanted) (i : ℕ) (u v : Option Value) → IsNumberValue v
+    → map (on_root s) (map encoded (place_edit (Field i) (Field i) rows w u v)) ≡ place_edit (Field i) (Field i) rows w u v
+encoded_again s rows w i None None n = refl
+encoded_again s rows w i None (Some (value.Whole z)) n = refl
+encoded_again s rows w i None (Some (value.Str t)) n = cc
+encoded_again s rows w i None (Some (value.Truth b)) n = cc
+encoded_again s rows w i None (Some (value.Link r)) n = cc
+encoded_again s rows w i (Some u) None n = refl
+encoded_again s rows w i (Some u) (Some (value.Whole z)) n = by_test (same_value u (value.Whole z))
   where
     by_test : (b : Bool) → (let es = cond b [] (changed_place (Field i) (Field i) (value.Whole z) (carried_in rows w (value.Whole z)) ∷ []) in
-        map (on_root s) (map told es) ≡ es)
+        map (on_root s) (map encoded es) ≡ es)
     by_test true = refl
     by_test false = refl
-told_again s rows w i (Some u) (Some (value.Str t)) n = cc
-told_again s rows w i (Some u) (Some (value.Truth b)) n = cc
-told_again s rows w i (Some u) (Some (value.Link r)) n = cc
+encoded_again s rows w i (Some u) (Some (value.Str t)) n = cc
+encoded_again s rows w i (Some u) (Some (value.Truth b)) n = cc
+encoded_again s rows w i (Some u) (Some (value.Link r)) n = cc
 
 -- two maps that give each part of a list back give the whole list back
 kept_by_parts : {X Y : Type 0} (g : X → Y) (h : Y → X) (f : ℕ → List X) (ks : List ℕ) → ((i : ℕ) → map h (map g (f i)) ≡ f i)
@@ -268,20 +268,20 @@ kept_by_parts g h f (k ∷ ks) e =
     ∙ (map-append h (map g (f k)) (map g (flat_map f ks)) ∙ rw (e k, kept_by_parts g h f ks e) refl)
 
 -- so are all operations of the patch
-patch_told_again : (s : Schema) (old new : List FieldValue) → AreNumbers (number_count s) new
-    → map (on_root s) (map told (field_edits s (number_rows new) 0 old new)) ≡ field_edits s (number_rows new) 0 old new
-patch_told_again s old new b =
-    kept_by_parts told (on_root s)
+patch_encoded_again : (s : Schema) (old new : List FieldValue) → AreNumbers (number_count s) new
+    → map (on_root s) (map encoded (field_edits s (number_rows new) 0 old new)) ≡ field_edits s (number_rows new) 0 old new
+patch_encoded_again s old new b =
+    kept_by_parts encoded (on_root s)
     (λ i. place_edit (Field i) (Field i) (number_rows new) (field_wants s 0 i) (field_value old i) (field_value new i))
     (either_number (map field_index old) (map field_index new))
-    (λ i. told_again s (number_rows new) (field_wants s 0 i) i (field_value old i) (field_value new i) (number_found (number_count s) i new b.each))
+    (λ i. encoded_again s (number_rows new) (field_wants s 0 i) i (field_value old i) (field_value new i) (number_found (number_count s) i new b.each))
 
 -- the edits that were read are those of the patch
 edits_read : (s : Schema) (old new : List FieldValue) → is_number_schema s ≡ true → AreNumbers (number_count s) old → AreNumbers (number_count s) new
     → map edit_of (all_placed s 0 (number_ops (number_count s) old new)) ≡ field_edits s (number_rows new) 0 old new
 edits_read s old new h a b =
     placed_edits s 0 (number_ops (number_count s) old new)
-    ∙ (ap (map (on_root s)) (sym (told_field_edits s old new h a b)) ∙ patch_told_again s old new b)
+    ∙ (ap (map (on_root s)) (sym (encoded_field_edits s old new h a b)) ∙ patch_encoded_again s old new b)
 
 -- the edits of the patch as a block of the root lead to the new row, also where there are none
 block_leads : (s : Schema) (old new : List FieldValue) → AreNumbers (number_count s) old → AreNumbers (number_count s) new

@@ -16,9 +16,9 @@ use Rattle.state_model.specs.Sound.{has_kind}
 use Rattle.state_model.specs.Rows.{row_at}
 use Rattle.wire_model.specs.declared.op.RowKind.{RowKind}
 use Rattle.wire_model.specs.declared.fault.OpFault.{OpFault}
-use Rattle.wire_model.specs.Grammar.{step_at, count_at, item_step, collection_step, holder_step, is_map, is_array_row}
+use Rattle.wire_model.specs.Grammar.{as_op_fault, step_at, count_at, item_step, collection_step, holder_step, is_map, is_array_row}
 use Rattle.op_reader.specs.Known.{kind_of_row, known_kind, is_holder}
-use Rattle.op_reader.specs.Homes.{home_row, kind_step}
+use Rattle.op_reader.specs.Homes.{home_row, kind_step, step_on}
 
 -- the same second step behind a first
 pub then_same : {A B : Type 0} (r : Result A OpFault) (f g : A → Result B OpFault) → ((x : A) → f x ≡ g x) → r >>= f ≡ r >>= g
@@ -94,14 +94,15 @@ byte_there bytes at within =
     let one : from_le_bytes w8 (take (byte_len w8) (drop at bytes)) ≡ slice_index_or bytes at 0 = ap (from_le_bytes w8) (one_there bytes at within) ∙ omega arith in
     rw (long, one) refl
 
--- the step on a holder that is known, at a byte that is no switch
-pub step_on_known : (schema : Schema) (known : List RowEntry) (holder : ℕ) (bytes : List ℕ) (at : ℕ) (kind : RowKind) → at < length bytes → is_holder schema known holder ≡ true
-    → known_kind known holder ≡ Some kind → (slice_index_or bytes at 0 == 255) ≡ false → step_at schema known holder bytes at ≡ kind_step schema known kind bytes at (slice_index_or bytes at 0)
-unfolding step_at
-step_on_known schema known holder bytes at kind within is_holder kinds no_switch = by (row_at known holder) refl is_holder kinds where
-  by : (o : Option Row) → row_at known holder ≡ o → option_map_or (has_kind schema) o false ≡ true → option_map kind_of_row o ≡ Some kind
-      → step_at schema known holder bytes at ≡ kind_step schema known kind bytes at (slice_index_or bytes at 0)
-  by None is h k = absurd (cc)
-  by (Some r) is h k =
-      let same : kind_of_row r ≡ kind = cc in
-      rw (byte_there bytes at within, no_switch, is, ← same) (sym (kind_steps schema known r bytes at (slice_index_or bytes at 0) h))
+-- the step on a holder that is known is that on its kind
+pub step_on_known : (schema : Schema) (known : List RowEntry) (holder : ℕ) (bytes : List ℕ) (at : ℕ) (kind : RowKind) → is_holder schema known holder ≡ true
+    → known_kind known holder ≡ Some kind → step_on schema known kind bytes at ≡ step_at schema known holder bytes at
+unfolding step_at step_on
+step_on_known schema known holder bytes at kind is_holder kinds =
+    by (row_at known holder) refl is_holder kinds where
+      by : (o : Option Row) → row_at known holder ≡ o → option_map_or (has_kind schema) o false ≡ true → option_map kind_of_row o ≡ Some kind
+          → step_on schema known kind bytes at ≡ step_at schema known holder bytes at
+      by None is h k = absurd (cc)
+      by (Some r) is h k =
+          let same : kind_of_row r ≡ kind = cc in
+          then_same (as_op_fault (fixed_at w8 bytes at)) _ _ (λ byte. rw (is, ← same, kind_steps schema known r bytes at byte.0 h) refl)

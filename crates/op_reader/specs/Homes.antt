@@ -16,8 +16,9 @@ use Rattle.wire_model.specs.declared.fault.OpFault.{OpFault}
 use Rattle.wire_model.specs.declared.fault.OpFault.TheVariants as fault
 use Rattle.wire_model.specs.declared.op.RowKind.{RowKind}
 use Rattle.wire_model.specs.declared.op.RowKind.TheVariants as is
-use Rattle.schema_model.specs.Reading.{◌>>=◌}
-use Rattle.wire_model.specs.Grammar.{has_add_bit, named_value, keyed_value, count_at, ref_step, field_step, collection_step, is_array_row}
+use Rattle.std.specs.Int.{w8}
+use Rattle.schema_model.specs.Reading.{◌>>=◌, fixed_at}
+use Rattle.wire_model.specs.Grammar.{as_op_fault, switch_at, has_add_bit, named_value, keyed_value, count_at, ref_step, field_step, collection_step, is_array_row}
 
 -- a collection of a home, without items; a set where the home is none of a collection
 abbrev pub home_row : Schema → Home → Row
@@ -41,3 +42,9 @@ abbrev pub kind_step : Schema → List RowEntry → RowKind → List ℕ → ℕ
 kind_step schema known (is.Struct class) bytes at byte =
     field_step schema known bytes at (byte - byte % 64) (byte % 64) (field_wants schema class (byte % 64))
 kind_step schema known (is.Coll home) bytes at byte = collection_step schema known (home_row schema home) home bytes at byte
+
+-- the step at a place on a holder of a kind, and the place after it: a first byte 255 is a switch, any other is an operation on the holder
+unfoldable pub step_on : Schema → List RowEntry → RowKind → List ℕ → ℕ → Result (Step × ℕ) OpFault
+step_on schema known kind bytes at = do
+  byte ← as_op_fault (fixed_at w8 bytes at)
+  if byte.0 == 255 then switch_at known bytes at else kind_step schema known kind bytes at byte.0

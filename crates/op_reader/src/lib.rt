@@ -6,6 +6,7 @@ mod put;
 mod read;
 mod read_items;
 mod read_value;
+mod source;
 
 pub use known::{Known, is_holder, kind_of_row};
 pub use read::{read_op, read_op_on};

@@ -4,6 +4,7 @@ ghost use Rattle.std.specs.Option.{option_map_or};
 ghost use Rattle.wire_model.specs.Grammar.{with_value, has_add_bit, is_item_code};
 ghost use Rattle.op_reader.specs.Puts.{code_of};
 
+use wire_model::codes::{ADD, DELETE_AND_ADD, REPLACE};
 use wire_model::{Op, OpKey, OpValue};
 
 /// An operation that puts a value under a key.
@@ -21,9 +22,9 @@ impl Put {
         ensures { option_map_or code_of result 64 ≡ code }
     {
         match code {
-            128 => Some(Put::Add),
-            192 => Some(Put::DeleteAdd),
-            0 => Some(Put::Replace),
+            ADD => Some(Put::Add),
+            DELETE_AND_ADD => Some(Put::DeleteAdd),
+            REPLACE => Some(Put::Replace),
             _ => None,
         }
     }

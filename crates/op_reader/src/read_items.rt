@@ -12,66 +12,53 @@ use crate::known::Known;
 use crate::put::Put;
 use crate::read::read_put;
 use crate::read_value::{read_count, read_value};
+use crate::source::Source;
 use lists::{Memory, Text};
 use scalar_codec::get_text;
 use schema_model::{Home, Item, RefNum, Schema, Shape};
 use state_model::{Wanted, item_wants};
-use std::alloc::Global;
+use wire_model::codes::{ADD, ADD_BY_REF, CLEAR, DELETE, DELETE_AND_ADD, DELETE_BY_REF, REPLACE};
 use wire_model::{Op, OpFault, OpKey, Step};
-
-// Their bytes.
-const CLEAR: u8 = 10;
-
-const DELETE_BY_REF: u8 = 33;
-
-const ADD_BY_REF: u8 = 129;
 
 /// An operation on a collection of a home, whose byte stands at a place.
 #[tactic(auto, unfolding(wire_model::specs::Grammar::collection_step))]
 pub fn read_item_op<K: Known>(
-    alloc: Global,
-    schema: &Schema,
-    known: &K,
+    from: &Source<'_, K>,
     home: &Home,
-    bytes: &[u8],
     at: usize,
     code: u8,
 ) -> Result<(Step, usize), OpFault>
-    requires { at < length bytes.now }
-    ensures { Reads result (collection_step schema.now (K.rows known.now) (home_row schema.now home.now) home.now bytes.now at code) }
+    requires { at < length from.now.bytes.now }
+    ensures { Reads result (collection_step from.now.schema.now (K.rows from.now.known.now) (home_row from.now.schema.now home.now) home.now from.now.bytes.now at code) }
 {
     match code {
         CLEAR => Ok((Step::Do(Op::Clear), at + 1)),
+        // Those that move or reverse arrays.
         15 | 32 | 96 | 160 => Err(OpFault::Unsupported(at, code)),
-        0 | 64 | 128 | 192 => read_numbered(alloc, schema, known, home, bytes, at, code),
-        DELETE_BY_REF => read_delete_by_ref(schema, home, bytes, at),
-        ADD_BY_REF => read_add_by_ref(alloc, schema, known, home, bytes, at),
+        REPLACE | DELETE | ADD | DELETE_AND_ADD => read_numbered(from, home, at, code),
+        DELETE_BY_REF => read_delete_by_ref(from.schema, home, from.bytes, at),
+        ADD_BY_REF => read_add_by_ref(from, home, at),
         _ => Err(OpFault::UnknownOp(at, code)),
     }
 }
 
 // An operation with an item number or a position.
 fn read_numbered<K: Known>(
-    alloc: Global,
-    schema: &Schema,
-    known: &K,
+    from: &Source<'_, K>,
     home: &Home,
-    bytes: &[u8],
     at: usize,
     code: u8,
 ) -> Result<(Step, usize), OpFault>
-    requires place { at < length bytes.now }
+    requires place { at < length from.now.bytes.now }
     requires code { IsTrue (is_item_code code) }
-    ensures { Reads result (count_at bytes.now (at + 1)
-        then item_step schema.now (K.rows known.now) (home_row schema.now home.now) bytes.now at code (item_wants schema.now home.now)) }
+    ensures { Reads result (count_at from.now.bytes.now (at + 1)
+        then item_step from.now.schema.now (K.rows from.now.known.now) (home_row from.now.schema.now home.now) from.now.bytes.now at code (item_wants from.now.schema.now home.now)) }
 {
-    let (number, next) = read_count(bytes, at + 1)?;
-    match item_wants(schema, *home) {
+    let (number, next) = read_count(from.bytes, at + 1)?;
+    match item_wants(from.schema, *home) {
         Some(wanted) => {
-            let named = is_map(schema, home);
-            read_item(
-                alloc, schema, known, bytes, next, code, named, number, wanted,
-            )
+            let named = is_map(from.schema, home);
+            read_item(from, next, code, number, wanted, named)
         }
         None => Err(OpFault::UnknownOp(at, code)),
     }
@@ -79,35 +66,23 @@ fn read_numbered<K: Known>(
 
 // The same from behind the number on; new items of a map are named.
 fn read_item<K: Known>(
-    alloc: Global,
-    schema: &Schema,
-    known: &K,
-    bytes: &[u8],
+    from: &Source<'_, K>,
     at: usize,
     code: u8,
-    named: bool,
     number: u32,
     wanted: Wanted,
+    named: bool,
 ) -> Result<(Step, usize), OpFault>
-    requires place { at ≤ length bytes.now }
+    requires place { at ≤ length from.now.bytes.now }
     requires code { IsTrue (is_item_code code) }
-    ensures { Reads result (item_after schema.now (K.rows known.now) named bytes.now code wanted (number, at)) }
+    ensures { Reads result (item_after from.now.schema.now (K.rows from.now.known.now) named from.now.bytes.now code wanted (number, at)) }
 {
     match Put::of(code) {
         Some(put) => {
             if named && put.adds() {
-                read_named(alloc, schema, known, bytes, at, put, number, wanted)
+                read_named(from, at, put, number, wanted)
             } else {
-                read_put(
-                    alloc,
-                    schema,
-                    known,
-                    bytes,
-                    at,
-                    put,
-                    OpKey::Item(number),
-                    wanted,
-                )
+                read_put(from, at, put, OpKey::Item(number), wanted)
             }
         }
         None => Ok((Step::Do(Op::Delete(OpKey::Item(number))), at)),
@@ -117,20 +92,17 @@ fn read_item<K: Known>(
 // A new item of a map, from its key on.
 #[tactic(auto, unfolding(wire_model::specs::Grammar::named_value), using(crate::proofs::Within::text_ends))]
 fn read_named<K: Known>(
-    alloc: Global,
-    schema: &Schema,
-    known: &K,
-    bytes: &[u8],
+    from: &Source<'_, K>,
     at: usize,
     put: Put,
     number: u32,
     wanted: Wanted,
 ) -> Result<(Step, usize), OpFault>
-    requires { at ≤ length bytes.now }
-    ensures { Reads result (named_value schema.now (K.rows known.now) bytes.now at (code_of put) number wanted) }
+    requires { at ≤ length from.now.bytes.now }
+    ensures { Reads result (named_value from.now.schema.now (K.rows from.now.known.now) from.now.bytes.now at (code_of put) number wanted) }
 {
-    match get_text(bytes, at) {
-        Ok((key, next)) => read_keyed(alloc, schema, known, bytes, next, put, number, key, wanted),
+    match get_text(from.bytes, at) {
+        Ok((key, next)) => read_keyed(from, next, put, number, key, wanted),
         Err(fault) => Err(OpFault::Scalar(fault)),
     }
 }
@@ -138,21 +110,18 @@ fn read_named<K: Known>(
 // A new item of a map, from its value on.
 #[tactic(auto, unfolding(wire_model::specs::Grammar::keyed_value))]
 fn read_keyed<K: Known>(
-    alloc: Global,
-    schema: &Schema,
-    known: &K,
-    bytes: &[u8],
+    from: &Source<'_, K>,
     at: usize,
     put: Put,
     number: u32,
     key: &str,
     wanted: Wanted,
 ) -> Result<(Step, usize), OpFault>
-    requires { at ≤ length bytes.now }
-    ensures { Reads result (keyed_value schema.now (K.rows known.now) bytes.now at (code_of put) (Named number key.now) wanted) }
+    requires { at ≤ length from.now.bytes.now }
+    ensures { Reads result (keyed_value from.now.schema.now (K.rows from.now.known.now) from.now.bytes.now at (code_of put) (Named number key.now) wanted) }
 {
-    let (value, end) = read_value(alloc, schema, known, put.adds(), bytes, at, wanted)?;
-    match Text::from_text(alloc, key) {
+    let (value, end) = read_value(from, put.adds(), at, wanted)?;
+    match Text::from_text(from.alloc, key) {
         Ok(key) => Ok((Step::Do(put.op(OpKey::Named(number, key), value)), end)),
         Err(Memory) => Err(OpFault::Memory),
     }
@@ -177,22 +146,19 @@ fn read_delete_by_ref(
 
 // An instance put into an array by its number, which stands before the value too.
 fn read_add_by_ref<K: Known>(
-    alloc: Global,
-    schema: &Schema,
-    known: &K,
+    from: &Source<'_, K>,
     home: &Home,
-    bytes: &[u8],
     at: usize,
 ) -> Result<(Step, usize), OpFault>
-    requires { at < length bytes.now }
-    ensures { Reads result (refs_step schema.now (K.rows known.now) (home_row schema.now home.now) home.now bytes.now at 129) }
+    requires { at < length from.now.bytes.now }
+    ensures { Reads result (refs_step from.now.schema.now (K.rows from.now.known.now) (home_row from.now.schema.now home.now) home.now from.now.bytes.now at 129) }
 {
-    if !holds_refs(schema, home) {
+    if !holds_refs(from.schema, home) {
         return Err(OpFault::UnknownOp(at, ADD_BY_REF));
     }
-    let (_, next) = read_count(bytes, at + 1)?;
-    match item_wants(schema, *home) {
-        Some(wanted) => read_pushed(alloc, schema, known, bytes, next, wanted),
+    let (_, next) = read_count(from.bytes, at + 1)?;
+    match item_wants(from.schema, *home) {
+        Some(wanted) => read_pushed(from, next, wanted),
         None => Err(OpFault::UnknownOp(at, ADD_BY_REF)),
     }
 }
@@ -200,17 +166,14 @@ fn read_add_by_ref<K: Known>(
 // An instance put into an array, from its value on.
 #[tactic(auto, unfolding(wire_model::specs::Grammar::by_ref_value))]
 fn read_pushed<K: Known>(
-    alloc: Global,
-    schema: &Schema,
-    known: &K,
-    bytes: &[u8],
+    from: &Source<'_, K>,
     at: usize,
     wanted: Wanted,
 ) -> Result<(Step, usize), OpFault>
-    requires { at ≤ length bytes.now }
-    ensures { Reads result (by_ref_value schema.now (K.rows known.now) bytes.now at wanted) }
+    requires { at ≤ length from.now.bytes.now }
+    ensures { Reads result (by_ref_value from.now.schema.now (K.rows from.now.known.now) from.now.bytes.now at wanted) }
 {
-    let (value, end) = read_value(alloc, schema, known, true, bytes, at, wanted)?;
+    let (value, end) = read_value(from, true, at, wanted)?;
     Ok((Step::Do(Op::AddByRef(value)), end))
 }
 

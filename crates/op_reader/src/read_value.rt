@@ -10,14 +10,13 @@ ghost use Rattle.state_model.specs.declared.place.Wanted.TheVariants.{Item as An
 ghost use Rattle.op_reader.specs.Known.{Reads, class_of_kind, home_of_kind};
 
 use crate::known::Known;
+use crate::source::Source;
 use scalar_codec::{ReadFault, ScalarFault, get_number, get_scalar};
 use schema_model::{Home, Item, RefNum, ScalarKind, Schema, TypeNum};
 use state_model::Wanted;
 use std::alloc::Global;
+use wire_model::codes::TYPE_MARK;
 use wire_model::{OpFault, OpValue, RowKind};
-
-// The byte before the type number of an instance.
-const TYPE_MARK: u8 = 213;
 
 // A `number` at a place, and the place after it.
 fn read_number(bytes: &[u8], at: usize) -> Result<(i32, usize), OpFault>
@@ -47,40 +46,34 @@ pub fn read_count(bytes: &[u8], at: usize) -> Result<(u32, usize), OpFault>
 /// The value of what a place is declared to hold, and the place after it.
 #[tactic(auto, unfolding(wire_model::specs::Grammar::value_at))]
 pub fn read_value<K: Known>(
-    alloc: Global,
-    schema: &Schema,
-    known: &K,
+    from: &Source<'_, K>,
     adds: bool,
-    bytes: &[u8],
     at: usize,
     wanted: Wanted,
 ) -> Result<(OpValue, usize), OpFault>
-    requires { at ≤ length bytes.now }
-    ensures { Reads result (value_at schema.now (K.rows known.now) adds bytes.now at wanted) }
+    requires { at ≤ length from.now.bytes.now }
+    ensures { Reads result (value_at from.now.schema.now (K.rows from.now.known.now) adds from.now.bytes.now at wanted) }
 {
     match wanted {
-        Wanted::Item(item) => read_item(alloc, schema, known, adds, bytes, at, item),
-        Wanted::Collection(home) => read_collection(known, home, bytes, at),
+        Wanted::Item(item) => read_item(from, adds, at, item),
+        Wanted::Collection(home) => read_collection(from, home, at),
     }
 }
 
 // The value of a place that is declared to hold an item.
 #[tactic(auto, unfolding(wire_model::specs::Grammar::value_at))]
 fn read_item<K: Known>(
-    alloc: Global,
-    schema: &Schema,
-    known: &K,
+    from: &Source<'_, K>,
     adds: bool,
-    bytes: &[u8],
     at: usize,
     item: Item,
 ) -> Result<(OpValue, usize), OpFault>
-    requires { at ≤ length bytes.now }
-    ensures { Reads result (value_at schema.now (K.rows known.now) adds bytes.now at (AnItem item)) }
+    requires { at ≤ length from.now.bytes.now }
+    ensures { Reads result (value_at from.now.schema.now (K.rows from.now.known.now) adds from.now.bytes.now at (AnItem item)) }
 {
     match item {
-        Item::Scalar(kind) => read_scalar_value(alloc, bytes, at, kind),
-        Item::Class(class) => read_instance(schema, known, class, adds, bytes, at),
+        Item::Scalar(kind) => read_scalar_value(from.alloc, from.bytes, at, kind),
+        Item::Class(class) => read_instance(from, class, adds, at),
     }
 }
 
@@ -103,17 +96,16 @@ fn read_scalar_value(
 
 // A collection of a home, by its number.
 fn read_collection<K: Known>(
-    known: &K,
+    from: &Source<'_, K>,
     home: Home,
-    bytes: &[u8],
     at: usize,
 ) -> Result<(OpValue, usize), OpFault>
-    requires { at ≤ length bytes.now }
-    ensures { result ≡ (count_at bytes.now at then λ n. collection_value home at n (row_at (K.rows known.now) n.0)) }
+    requires { at ≤ length from.now.bytes.now }
+    ensures { result ≡ (count_at from.now.bytes.now at then λ n. collection_value home at n (row_at (K.rows from.now.known.now) n.0)) }
 {
-    let (who, next) = read_count(bytes, at)?;
+    let (who, next) = read_count(from.bytes, at)?;
     let who = RefNum(who);
-    match known.kind_of(who) {
+    match from.known.kind_of(who) {
         None => Ok((OpValue::Coll(who), next)),
         Some(kind) => {
             if has_home(kind, home) {
@@ -128,24 +120,22 @@ fn read_collection<K: Known>(
 // An instance of a class, by its number; a type mark may follow where the operation has the ADD bit.
 #[tactic(auto, unfolding(wire_model::specs::Grammar::instance_value, wire_model::specs::Grammar::marked_value))]
 fn read_instance<K: Known>(
-    schema: &Schema,
-    known: &K,
+    from: &Source<'_, K>,
     class: TypeNum,
     adds: bool,
-    bytes: &[u8],
     at: usize,
 ) -> Result<(OpValue, usize), OpFault>
-    requires { at ≤ length bytes.now }
-    ensures { result ≡ (count_at bytes.now at then λ n. instance_value schema.now class adds bytes.now at n (row_at (K.rows known.now) n.0)) }
+    requires { at ≤ length from.now.bytes.now }
+    ensures { result ≡ (count_at from.now.bytes.now at then λ n. instance_value from.now.schema.now class adds from.now.bytes.now at n (row_at (K.rows from.now.known.now) n.0)) }
 {
-    let (who, next) = read_count(bytes, at)?;
+    let (who, next) = read_count(from.bytes, at)?;
     let who = RefNum(who);
-    check_instance(schema, known, class, adds, who, at)?;
-    if !has_mark(adds, bytes, next) {
+    check_instance(from, class, adds, who, at)?;
+    if !has_mark(adds, from.bytes, next) {
         return Ok((OpValue::Struct(who, None), next));
     }
-    let (mark, end) = read_class(schema, bytes, next + 1)?;
-    if mark_fits(schema, known, class, who, mark) {
+    let (mark, end) = read_class(from.schema, from.bytes, next + 1)?;
+    if mark_fits(from, class, who, mark) {
         Ok((OpValue::Struct(who, Some(mark)), end))
     } else {
         Err(OpFault::WrongClass(at))
@@ -154,17 +144,16 @@ fn read_instance<K: Known>(
 
 // The number of an instance is known as one of the class or of a descendant, or it is unknown and may be added.
 fn check_instance<K: Known>(
-    schema: &Schema,
-    known: &K,
+    from: &Source<'_, K>,
     class: TypeNum,
     adds: bool,
     who: RefNum,
     at: usize,
 ) -> Result<(), OpFault>
-    ensures { MatchResult result (λ _. check_instance schema.now class adds at (row_at (K.rows known.now) who) ≡ Ok true)
-        (λ fault. check_instance schema.now class adds at (row_at (K.rows known.now) who) ≡ Err fault) }
+    ensures { MatchResult result (λ _. check_instance from.now.schema.now class adds at (row_at (K.rows from.now.known.now) who) ≡ Ok true)
+        (λ fault. check_instance from.now.schema.now class adds at (row_at (K.rows from.now.known.now) who) ≡ Err fault) }
 {
-    match known.kind_of(who) {
+    match from.known.kind_of(who) {
         None => {
             if adds {
                 Ok(())
@@ -173,7 +162,7 @@ fn check_instance<K: Known>(
             }
         }
         Some(kind) => {
-            if is_instance_of(schema, kind, class) {
+            if is_instance_of(from.schema, kind, class) {
                 Ok(())
             } else {
                 Err(OpFault::WrongClass(at))
@@ -238,17 +227,11 @@ fn read_class(schema: &Schema, bytes: &[u8], at: usize) -> Result<(TypeNum, usiz
 }
 
 // A class that a type mark gives is the declared class or a descendant, and the row's own where the row is known.
-fn mark_fits<K: Known>(
-    schema: &Schema,
-    known: &K,
-    class: TypeNum,
-    who: RefNum,
-    mark: TypeNum,
-) -> bool
-    ensures { result ≡ mark_fits schema.now class (row_at (K.rows known.now) who) mark }
+fn mark_fits<K: Known>(from: &Source<'_, K>, class: TypeNum, who: RefNum, mark: TypeNum) -> bool
+    ensures { result ≡ mark_fits from.now.schema.now class (row_at (K.rows from.now.known.now) who) mark }
 {
-    schema.is_kind_of(mark, class)
-        && match known.kind_of(who) {
+    from.schema.is_kind_of(mark, class)
+        && match from.known.kind_of(who) {
             None => true,
             Some(kind) => has_class(kind, mark),
         }

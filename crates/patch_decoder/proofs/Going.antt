@@ -22,7 +22,7 @@ use Rattle.wire_model.specs.declared.fault.OpFault.TheVariants.{Scalar, UnknownR
 use Rattle.wire_model.specs.Effect.{opened, finds, carried_by, with_named, apply_edits}
 use Rattle.wire_model.specs.Grammar.{PlacedEdit, Progress, with_edit, turned, did, after_step, advanced, reading_start, resolved, step_at}
 use Rattle.wire_model.specs.Decoded.{decoded, edits_of, missed_in, missed_by, run_or_miss, ended_by}
-use Rattle.wire_laws.proofs.ToldKnown.{is_live-kinds_of}
+use Rattle.wire_laws.proofs.EncodedKnown.{is_live-kinds_of}
 use Rattle.wire_laws.proofs.LinkedRows.{with_carried}
 use Rattle.wire_ops.specs.PlainEdits.{plain_edit}
 use Rattle.op_reader.specs.Known.{is_holder}

@@ -16,7 +16,7 @@ use Rattle.state_model.specs.Places.{field_wants, item_wants}
 use Rattle.wire_model.specs.declared.op.OpKey.{OpKey}
 use Rattle.wire_model.specs.Grammar.{as_op_fault, count_at, collection_value, check_instance, class_of_number, mark_fits, marked_value, instance_value, link_value, value_at, keyed_value, field_step, named_value, is_map, is_array_row, item_step, by_ref_value, ref_step, collection_step, holder_step, turn_to, switch_at, known_step, step_at}
 use Rattle.op_reader.proofs.HolderKinds.{then_same}
-use Rattle.wire_laws.proofs.ToldKnown.{row_at-kinds_of}
+use Rattle.wire_laws.proofs.EncodedKnown.{row_at-kinds_of}
 
 -- ---- one known row, without its places
 

@@ -23,7 +23,7 @@ use Rattle.wire_model.specs.Effect.{Body, Fields, Items, Slots, Elements, finds}
 use Rattle.wire_model.specs.Grammar.{resolved}
 use Rattle.wire_model.specs.Resolved.{holder_kind}
 use Rattle.wire_laws.proofs.LinkedRows.{with_carried, row_at-put_row, is_live-put_row}
-use Rattle.wire_laws.proofs.ToldKnown.{row_at-kinds_of}
+use Rattle.wire_laws.proofs.EncodedKnown.{row_at-kinds_of}
 use Rattle.wire_laws.proofs.KindLaws.{emptied_of_kind}
 use Rattle.wire_laws.proofs.NamedNumbers.{emptied_kind}
 use Rattle.wire_ops.specs.Bodies.{put_position, replaced_number}

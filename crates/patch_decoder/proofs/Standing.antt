@@ -16,7 +16,7 @@ use Rattle.wire_model.specs.Grammar.{PlacedEdit, ReadBlock, Progress, did, resol
 use Rattle.wire_model.specs.Decoded.{edits_of, missed_in, missed_by, run_or_miss, run_blocks}
 use Rattle.wire_model.specs.Resolved.{holder_kind}
 use Rattle.wire_laws.proofs.LinkedRows.{with_carried, named_rises}
-use Rattle.wire_laws.proofs.ToldKnown.{row_at-kinds_of}
+use Rattle.wire_laws.proofs.EncodedKnown.{row_at-kinds_of}
 use Rattle.wire_laws.proofs.EditedForm.{edited_kind}
 use Rattle.wire_ops.proofs.EffectLaws.{same_effect}
 use Rattle.canon_patch.proofs.Applying.{put_kind, link_known}

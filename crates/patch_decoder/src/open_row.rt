@@ -91,16 +91,15 @@ impl OpenRow {
         self.holder.finds(op)
     }
 
-    /// Does an operation. After an `Err` the row is any.
-    pub fn apply(&mut self, alloc: Global, op: &Op) -> Result<(), Memory>
-        ensures { OnOk result (self.new ≡ effect (plain_edit op.now) self.old) }
+    /// The row after an operation.
+    pub fn apply(self, alloc: Global, op: &Op) -> Result<OpenRow, Memory>
+        ensures { IfOk result (λ r. r ≡ effect (plain_edit op.now) self) }
     {
-        let holed = self.holed || may_hole(&self.holder, op);
-        self.holed = true;
-        self.weight = self.weight.saturating_add(weight_of_op(op));
-        self.holder.apply(alloc, op)?;
-        self.holed = holed;
-        Ok(())
+        Ok(OpenRow {
+            holed: self.holed || may_hole(&self.holder, op),
+            weight: self.weight.saturating_add(weight_of_op(op)),
+            holder: self.holder.apply(alloc, op)?,
+        })
     }
 
     /// Closes it. Where it is heavy and has no holes, it stays ready to be opened again.

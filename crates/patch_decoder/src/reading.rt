@@ -37,7 +37,7 @@ pub fn decoded_anew(alloc: Global, schema: &Schema, bytes: &[u8]) -> Result<Rows
     ensures value { Decodes result (decoded schema.now bytes.now (root_alone schema.now)) }
     ensures known { IfOk result (λ after. AreKnown schema.now after) }
 {
-    know_limits(schema);
+    schema.know_limits();
     match Rows::root_alone(alloc, schema) {
         Ok(root) => decoded(alloc, schema, &root, bytes),
         Err(Memory) => Err(OpFault::Memory),
@@ -57,7 +57,7 @@ fn read_steps(alloc: Global, schema: &Schema, rows: &Rows, bytes: &[u8]) -> Resu
     requires { AreKnown schema.now rows.now }
     ensures { Leads schema.now rows.now bytes.now result }
 {
-    know_limits(schema);
+    schema.know_limits();
     let Ok(mut run) = started(alloc, rows) else {
         return Err(OpFault::Memory);
     };
@@ -66,13 +66,6 @@ fn read_steps(alloc: Global, schema: &Schema, rows: &Rows, bytes: &[u8]) -> Resu
         at = read_step(alloc, schema, &mut run, bytes, at)?;
     }
     Ok(run)
-}
-
-// A schema keeps its limits; it does nothing else than to say so.
-fn know_limits(schema: &Schema)
-    ensures { IsTrue (is_kept schema.now) }
-{
-    let _ = &schema.root;
 }
 
 // Does one step, and answers the place after it.

@@ -106,7 +106,9 @@ impl Run {
         if let Some(entry) = linked_row(alloc, schema, &self.kind, op) {
             self.rows.add(entry)?;
         }
-        self.holder.apply(alloc, op)
+        let holder = mem::replace(&mut self.holder, OpenRow::first(alloc));
+        self.holder = holder.apply(alloc, op)?;
+        Ok(())
     }
 
     /// All rows, with the open one closed.

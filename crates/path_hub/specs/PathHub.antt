@@ -6,6 +6,7 @@ use Rattle.room_core.specs.Values.{Held}
 use Rattle.plain_rows.specs.Numbers.{is_number_schema}
 use Rattle.std.specs.Option.{option_map}
 use Rattle.std.specs.Prelude.{IsTrue}
+use Rattle.room_model.specs.Limits.{most_places, longest_time}
 use Rattle.room_model.specs.declared.event.RoomEvent.{RoomEvent}
 use Rattle.room_model.specs.Sessions.{session_of}
 use Rattle.room_model.specs.Room.{RoomValue, room_step}
@@ -62,7 +63,7 @@ Fits p (Some h) (Some conn) = HasCome p.session h.room
 abbrev pub is_playable : FirstPath → Bool
 is_playable p =
     is_number_schema (path_schema p) && is_id p.process && is_id p.room && is_id p.session && is_room_name p.def.name
-    && is_within 1 64 p.def.max && (length p.def.filter == 0) && is_within 1 3600000 p.def.seat
+    && is_within 1 most_places p.def.max && (length p.def.filter == 0) && is_within 1 longest_time p.def.seat
 
 -- whether an event may come: a request only once, and a put only to a field of the class
 abbrev pub may_come : ℕ → Bool → Item → Bool

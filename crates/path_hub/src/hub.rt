@@ -11,7 +11,7 @@ ghost use Rattle.path_hub.specs.PathHub.{hub_of, Fits, is_playable, may_come, as
 
 use crate::reply::seat_reply;
 use crate::tell::tell_all;
-use hub_model::{HubOut, HubOuts};
+use hub_model::{HubOut, HubOuts, LAST_MOMENT};
 use lists::Seq;
 use room_core::{Room, RoomLike};
 use room_model::{Act, RoomEvent, Texts};
@@ -21,9 +21,6 @@ use std::alloc::Global;
 use std::sync::ledger::Ledger;
 use steps::Steps;
 use text_model::{FirstPath, Item};
-
-/// The last moment, in milliseconds; later ones count as this.
-const LAST_MOMENT: u64 = (1 << 53) - 1;
 
 /// The hub of a schedule of one room and one client: the moment, the room and the session's connection.
 #[derive(Drop)]

@@ -2,7 +2,7 @@
 use Rattle.std.specs.Prelude.{◌≡◌, ℕ, ◌^◌, Bool, true, false, ◌&&◌, List, [], ◌∷◌, length, is_none, nat_lt, nat_le, ◌==◌}
 use Rattle.std.specs.List.{list_all}
 use Rattle.lists.specs.Rising.{RisesFrom}
-use Rattle.schema_model.specs.Classes.{Schema}
+use Rattle.schema_model.specs.Classes.{Schema, most_fields}
 use Rattle.schema_model.specs.Fits.{in_signed}
 use Rattle.schema_model.specs.declared.class.Class.{Class}
 use Rattle.schema_model.specs.declared.class.FieldDecl.{FieldDecl}
@@ -25,9 +25,9 @@ is_number_shape s = false
 abbrev pub is_number_field : FieldDecl → Bool
 is_number_field f = is_number_shape f.shape && is_none f.tag
 
--- one class of such fields, at most 63, which is the root's
+-- one class of such fields, not too many, which is the root's
 abbrev pub is_number_class : Class → Bool
-is_number_class c = is_none c.parent && list_all is_number_field c.own && nat_le (length c.own) 63
+is_number_class c = is_none c.parent && list_all is_number_field c.own && nat_le (length c.own) most_fields
 
 abbrev pub is_number_classes : List Class → Bool
 is_number_classes (c ∷ []) = is_number_class c

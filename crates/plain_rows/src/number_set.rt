@@ -1,5 +1,5 @@
 //! Sets of row numbers.
-ghost use Rattle.std.specs.Prelude.{◌≡◌, not, [], IfOk, OnOk};
+ghost use Rattle.std.specs.Prelude.{◌≡◌, not, [], IfOk, OnErr, OnOk};
 ghost use Rattle.lists.specs.Rising.{RisesFrom};
 ghost use Rattle.lists.specs.Rising.{remove as without};
 ghost use Rattle.state_model.specs.Reached.{is_among, with_number};
@@ -48,6 +48,7 @@ impl NumberSet {
     pub fn insert(&mut self, number: RefNum) -> Result<bool, Memory>
         ensures added { IfOk result (λ added. added ≡ not (is_among number self.old)) }
         ensures numbers { OnOk result (self.new ≡ with_number self.old number) }
+        ensures err { OnErr result (self.new ≡ self.old) }
     {
         Ok(self.numbers.insert(number.0)?)
     }

@@ -12,8 +12,7 @@ use std::alloc::Global;
 pub fn reached_set(alloc: Global, rows: &Rows, from: RefNum) -> Result<NumberSet, Memory>
     ensures { IfOk result (λ ns. ns ≡ reached_numbers rows.now from) }
 {
-    // From this call the proof knows that the rows rise.
-    let _ = rows.as_slice();
+    rows.know_rising();
     let mut seen = NumberSet::new(alloc);
     let mut waiting = Vec::new(alloc);
     waiting.push(from)?;

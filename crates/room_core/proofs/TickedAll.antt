@@ -1,9 +1,9 @@
 -- Clients whose tick is done, one after another.
-use Rattle.std.proofs.Common.{◌≡◌, ℕ, ◌+◌, ◌<◌, List, [], ◌∷◌, ◌++◌, All, Option, map, take, drop, set, length, get_or, sym, ap, ◌∙◌, arith}
+use Rattle.std.proofs.Common.{◌≡◌, ℕ, zero, suc, ◌+◌, ◌<◌, List, [], ◌∷◌, ◌++◌, All, Option, map, take, drop, set, length, get_or, sym, ap, ◌∙◌, arith}
 use Rattle.std.specs.Prelude.{◌≤◌}
 use Rattle.std.specs.List.{flat_map, sum_by}
 use Rattle.std.proofs.lemmas.List.{take_more, take_more_set, drop_more, drop-set-lt, map-append, flat_map_more}
-use Rattle.std.proofs.lemmas.List.Sums.{sum_by_more}
+use Rattle.std.proofs.lemmas.List.Sums.{sum_by-cons, sum_by_more}
 use Rattle.live_state.specs.Live.{Live as State-now, schema_of, rows_of}
 use Rattle.room_model.specs.declared.event.RoomOut.{RoomOut}
 use Rattle.room_model.specs.Room.{tick_outs}
@@ -71,3 +71,15 @@ module _ (live : State-now) where
       let same = ap cost_of (next_same cs first n d long within rest) in
       let more = sum_by_more cost_of first n d within in
       omega (arith, same, more, so_far, step)
+
+  -- so many take no more than all
+  cost_within : (n : ℕ) (cs : List Client) → sum_by cost_of (take n cs) ≤ sum_by cost_of cs
+  cost_within zero cs = omega arith
+  cost_within (suc n) [] = omega arith
+  cost_within (suc n) (c ∷ cs) = let so_many = sum_by-cons cost_of c (take n cs) in let all = sum_by-cons cost_of c cs in omega (arith, so_many, all, cost_within n cs)
+
+  pub cost_after : (first cs : List Client) (n : ℕ) (d : Client) (before steps after : ℕ) → length cs ≡ length first → n < length first → drop n cs ≡ drop n first
+      → steps ≤ before + sum_by cost_of (take n first) → after ≤ steps + cost_of (get_or cs n d) → after ≤ before + sum_by cost_of first
+  cost_after first cs n d before steps after long within rest so_far step =
+      let one = cost_more first cs n d before steps after long within rest so_far step in
+      omega (arith, one, cost_within (n + 1) first)

@@ -38,7 +38,7 @@ impl Parts {
     {
         let alloc = self.alloc;
         // The rows so far are sound.
-        let _ = self.live.schema();
+        self.live.know_rows();
         let answer = self.live.apply(command);
         answered(alloc, answer)
     }
@@ -57,7 +57,7 @@ impl Parts {
         ensures room { OnOk result (room_of self.new ≡ (on_session (room_of self.old) session (view_edited edit (schema_of self.old.live) (rows_of self.old.live) pair)).0) }
         ensures stands { OnOk result (RoomStands self.new) }
         ensures places { OnErr result (SamePlaces self.old self.new) }
-        ensures cost { OnOk result (steps.new ≤ steps.old + edit_cost (room_of self.old) pair) }
+        ensures cost { steps.new ≤ steps.old + edit_cost (room_of self.old) pair }
     {
         let alloc = self.alloc;
         let Some(at) = place_of(self.clients.as_slice(), session) else {
@@ -120,7 +120,7 @@ fn edit_one<L: Ledger>(
     ensures tells { IfOk result (EditTells (view_edited edit (schema_of live.now) (rows_of live.now) pair (session_of_client client.old)) client.old client.new) }
     ensures edited { OnOk result (Edited client.old client.new) }
     ensures there { OnOk result (are_there (rows_of live.now) client.new.members.now ≡ true) }
-    ensures cost { OnOk result (steps.new ≤ steps.old + places_behind (schema_of live.now) (rows_of live.now) pair.who pair.tag) }
+    ensures cost { steps.new ≤ steps.old + places_behind (schema_of live.now) (rows_of live.now) pair.who pair.tag }
 {
     match edit {
         ViewEdit::Show => show_to(live, client, pair, steps),
@@ -139,7 +139,7 @@ fn show_to<L: Ledger>(
     ensures tells { IfOk result (EditTells (view_added_to (schema_of live.now) (rows_of live.now) pair (session_of_client client.old)) client.old client.new) }
     ensures edited { OnOk result (Edited client.old client.new) }
     ensures there { OnOk result (are_there (rows_of live.now) client.new.members.now ≡ true) }
-    ensures cost { OnOk result (steps.new ≤ steps.old + places_behind (schema_of live.now) (rows_of live.now) pair.who pair.tag) }
+    ensures cost { steps.new ≤ steps.old + places_behind (schema_of live.now) (rows_of live.now) pair.who pair.tag }
 {
     if client.stage == Stage::Reserved {
         return Ok(Some(Refusal::NotHere));
@@ -158,7 +158,7 @@ fn hide_from<L: Ledger>(
     ensures tells { IfOk result (EditTells (view_removed_from (schema_of live.now) (rows_of live.now) pair (session_of_client client.old)) client.old client.new) }
     ensures edited { OnOk result (Edited client.old client.new) }
     ensures there { OnOk result (are_there (rows_of live.now) client.new.members.now ≡ true) }
-    ensures cost { OnOk result (steps.new ≤ steps.old + places_behind (schema_of live.now) (rows_of live.now) pair.who pair.tag) }
+    ensures cost { steps.new ≤ steps.old + places_behind (schema_of live.now) (rows_of live.now) pair.who pair.tag }
 {
     if client.stage == Stage::Reserved {
         return Ok(Some(Refusal::NotHere));

@@ -41,15 +41,14 @@ impl Parts {
 
     /// An opening: the session's reservation becomes a seat with a fresh token. No seat is kept, so there is none to
     /// return to.
-    pub fn enter(&mut self, session: Id, token: Option<Id>, fresh: Id) -> Result<RoomOuts, Memory>
+    pub fn enter(&mut self, session: Id, _token: Option<Id>, fresh: Id) -> Result<RoomOuts, Memory>
         requires stands { RoomStands self.old }
         requires placed { Placed (room_of self.old) }
-        ensures outs { IfOk result (λ outs. outs ≡ (after_enter (room_of self.old) session token fresh).1) }
-        ensures room { OnOk result (room_of self.new ≡ (after_enter (room_of self.old) session token fresh).0) }
+        ensures outs { IfOk result (λ outs. outs ≡ (after_enter (room_of self.old) session _token fresh).1) }
+        ensures room { OnOk result (room_of self.new ≡ (after_enter (room_of self.old) session _token fresh).0) }
         ensures stands { OnOk result (RoomStands self.new) }
         ensures places { OnErr result (SamePlaces self.old self.new) }
     {
-        let _ = token;
         let alloc = self.alloc;
         if !self.places.has_reservation(session) {
             return one_out(alloc, RoomOut::NoSeat(session));
@@ -65,15 +64,14 @@ impl Parts {
     }
 
     /// A frame of a connected session: its acknowledgement.
-    pub fn acknowledge(&mut self, session: Id, bytes: &Bytes)
+    pub fn acknowledge(&mut self, session: Id, _bytes: &Bytes)
         requires stands { RoomStands self.old }
-        requires bytes { IsTrue (is_acknowledgement bytes.now) }
+        requires bytes { IsTrue (is_acknowledgement _bytes.now) }
         requires connected { IsTrue (is_connected_in (room_of self.old) session) }
-        ensures outs { (after_frame (room_of self.old) session bytes.now).1 ≡ [] }
-        ensures room { room_of self.new ≡ (after_frame (room_of self.old) session bytes.now).0 }
+        ensures outs { (after_frame (room_of self.old) session _bytes.now).1 ≡ [] }
+        ensures room { room_of self.new ≡ (after_frame (room_of self.old) session _bytes.now).0 }
         ensures stands { RoomStands self.new }
     {
-        let _ = bytes;
         acknowledge(&mut self.clients, session);
     }
 }

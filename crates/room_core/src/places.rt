@@ -67,11 +67,10 @@ impl Places {
     }
 
     /// How many are taken, where they are at most so many.
-    pub fn count(&self, most: u32) -> u32
-        requires { entry_count self.now ≤ most }
+    pub fn count(&self, _most: u32) -> u32
+        requires { entry_count self.now ≤ _most }
         ensures { result ≡ entry_count self.now }
     {
-        let _ = most;
         (self.seats.len() + self.reserved.len()) as u32
     }
 

@@ -121,7 +121,7 @@ impl RoomLike for Room {
 
     ghost takes = { is_taken };
 
-    ghost costs = { step_cost };
+    ghost costs = { λ h e. step_cost h.room e };
 
     ghost Holds = { Ordered };
 
@@ -151,7 +151,7 @@ impl RoomLike for Room {
             places: Places::new(alloc),
             clients: Vec::new(alloc),
         };
-        let _ = parts.live.schema();
+        parts.live.know_rows();
         let spent = false;
         Ok(Room { parts, spent })
     }
@@ -171,8 +171,7 @@ impl RoomLike for Room {
     }
 
     fn locked(&self) -> bool {
-        let _ = &self.parts;
-        false
+        self.parts.is_locked()
     }
 
     fn in_use(&self) -> u32 {
@@ -188,9 +187,7 @@ impl RoomLike for Room {
     }
 
     fn kept_by(&self, token: Id) -> Option<Id> {
-        let _ = token;
-        let _ = &self.parts;
-        None
+        self.parts.kept_by(token)
     }
 }
 
@@ -208,7 +205,7 @@ fn happen<L: Ledger>(
     ensures room { OnOk result (room_of parts.new ≡ (room_step (room_of parts.old) event.now).0) }
     ensures stands { OnOk result (RoomStands parts.new) }
     ensures places { OnErr result (SamePlaces parts.old parts.new) }
-    ensures cost { OnOk result (steps.new ≤ steps.old + step_cost (room_of parts.old) event.now) }
+    ensures cost { steps.new ≤ steps.old + step_cost (room_of parts.old) event.now }
 {
     match event {
         RoomEvent::Reserve(session, lapse) => {
@@ -239,7 +236,7 @@ fn perform<L: Ledger>(
     ensures room { OnOk result (room_of parts.new ≡ (after_act (room_of parts.old) act.now).0) }
     ensures stands { OnOk result (RoomStands parts.new) }
     ensures places { OnErr result (SamePlaces parts.old parts.new) }
-    ensures cost { OnOk result (steps.new ≤ steps.old + act_cost (room_of parts.old) act.now) }
+    ensures cost { steps.new ≤ steps.old + act_cost (room_of parts.old) act.now }
 {
     match act {
         Act::State(command) => parts.command(command),

@@ -38,11 +38,11 @@ impl Parts {
         ensures room { OnOk result (room_of self.new ≡ (after_tick (room_of self.old)).0) }
         ensures stands { OnOk result (RoomStands self.new) }
         ensures places { OnErr result (SamePlaces self.old self.new) }
-        ensures cost { OnOk result (steps.new ≤ steps.old + tick_cost (room_of self.old)) }
+        ensures cost { steps.new ≤ steps.old + tick_cost (room_of self.old) }
     {
-        let _ = self.live.schema();
+        self.live.know_rows();
         self.live.sweep(steps)?;
-        let _ = self.live.schema();
+        self.live.know_rows();
         forget_all(&self.live, &mut self.clients);
         self.shared.settle(&self.live, &self.none, steps)?;
         let part = encode_shared(self.alloc, &self.live, &self.shared, steps)?;
@@ -92,7 +92,7 @@ fn tick_all<L: Ledger>(
     ensures outs { IfOk result (λ outs. outs ≡ flat_map (λ (c : Seen). tick_outs (schema_of live.now) (view_before shared.now) (rows_of live.now) (session_of_client c)) clients.old.items) }
     ensures clients { OnOk result (map session_of_client clients.new.items ≡ map (ticked_client (schema_of live.now) (rows_of live.now)) clients.old.items) }
     ensures stand { OnOk result (All (ClientStands (schema_of live.now) (rows_of live.now) (rows_of live.now)) clients.new.items) }
-    ensures cost { OnOk result (steps.new ≤ steps.old + sum_by (λ (c : Seen). session_cost (schema_of live.now) (rows_of live.now) (session_of_client c)) clients.old.items) }
+    ensures cost { steps.new ≤ steps.old + sum_by (λ (c : Seen). session_cost (schema_of live.now) (rows_of live.now) (session_of_client c)) clients.old.items }
 {
     let mut outs = Seq::new(alloc);
     for client in clients.iter_mut() {
@@ -123,7 +123,7 @@ fn tick_one<L: Ledger>(
 ) -> Result<Option<Bytes>, Memory>
     requires { CanSee live.now shared.now part.now client.old }
     ensures ticks { IfOk result (Ticks live.now shared.now client.old client.new) }
-    ensures cost { OnOk result (steps.new ≤ steps.old + session_cost (schema_of live.now) (rows_of live.now) (session_of_client client.old)) }
+    ensures cost { steps.new ≤ steps.old + session_cost (schema_of live.now) (rows_of live.now) (session_of_client client.old) }
 {
     match client.stage {
         Stage::Due => {

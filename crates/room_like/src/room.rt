@@ -37,8 +37,8 @@ pub trait RoomLike: Sized + Drop {
     /// The events that it takes.
     ghost takes: { RoomEvent → Bool };
 
-    /// How many steps its step takes at most.
-    ghost costs: { RoomValue → RoomEvent → ℕ };
+    /// How many steps its step takes at most, by what it keeps.
+    ghost costs: { Self → RoomEvent → ℕ };
 
     /// What holds of a new room, and after each step.
     ghost Holds: { RoomValue → Type 0 };
@@ -48,22 +48,23 @@ pub trait RoomLike: Sized + Drop {
         ensures value { IfOk result (λ r. room r ≡ new_room schema.now def.now criteria.now) }
         ensures fresh { IfOk result (λ r. is_spent r ≡ false) };
 
-    /// The room's step. A reservation is of a session that the room doesn't have, and the room is neither locked nor
-    /// full; a frame and a loss are of a session that has a connection. Where it answers `Memory` the room is spent. The
-    /// texts that an event's command puts are UTF-8, as those of every command are.
+    /// The room's step. Unless the room is spent a reservation is of a session that the room doesn't have, and the room is
+    /// neither locked nor full; a frame and a loss are of a session that has a connection. Any event may come to a spent
+    /// room. Where it answers `Memory` the room is spent, and took no more steps than `costs` says. The texts that an
+    /// event's command puts are UTF-8, as those of every command are.
     fn step<L: Ledger>(
         &mut self,
         event: &RoomEvent,
         steps: &mut Steps<L>,
     ) -> Result<RoomOuts, Memory>
-        requires happen { IsTrue (may_happen (room self.old) event.now) }
+        requires happen { is_spent self.old ≡ false → IsTrue (may_happen (room self.old) event.now) }
         requires takes { IsTrue (takes event.now) }
         ensures outs { IfOk result (λ outs. outs ≡ (happens (room self.old) event.now).1) }
         ensures after { OnOk result (room self.new ≡ (happens (room self.old) event.now).0) }
         ensures fresh { OnOk result (is_spent self.new ≡ false) }
         ensures spent { OnErr result (IsTrue (is_spent self.new)) }
         ensures for_good { IsTrue (is_spent self.old) → IsErr result }
-        ensures cost { OnOk result (steps.new ≤ steps.old + costs (room self.old) event.now) }
+        ensures cost { steps.new ≤ steps.old + costs self.old event.now }
         ensures worded { IsTrue (is_worded_event event.now) };
 
     /// Whether an act locked it.

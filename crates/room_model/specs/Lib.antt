@@ -1,4 +1,5 @@
 pub mod Seats
 pub mod Ledger
+pub mod Limits
 pub mod Sessions
 pub mod Room

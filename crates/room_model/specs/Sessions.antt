@@ -3,6 +3,7 @@
 use Rattle.std.specs.Prelude.{ℕ, Bool, true, false, List, [], ◌∷◌, ◌++◌, length, map, Option, Some, None, Result, Ok, Err, nat_lt, not, filter, if◌then◌else◌}
 use Rattle.std.specs.List.{find}
 use Rattle.std.specs.Str.{bytes_eq}
+use Rattle.room_model.specs.Limits.{most_queued}
 use Rattle.schema_model.specs.Classes.{Schema}
 use Rattle.schema_model.specs.declared.place.Pair.{Pair}
 use Rattle.state_model.specs.declared.row.RowEntry.{RowEntry}
@@ -70,9 +71,9 @@ pub record Acted : Type 0 where
 abbrev pub acted : Session → List RoomOut → Result Acted Refusal
 acted s outs = Ok (record { session = s; outs = outs })
 
--- a message waits for the full state, where fewer than 256 do
+-- a message waits for the full state, where not too many do
 abbrev pub queued_for : List ℕ → Session → Result Acted Refusal
-queued_for frame s = if nat_lt (length s.queue) 256 then acted (with_queue (s.queue ++ frame ∷ []) s) [] else Err refusal.QueueFull
+queued_for frame s = if nat_lt (length s.queue) most_queued then acted (with_queue (s.queue ++ frame ∷ []) s) [] else Err refusal.QueueFull
 
 -- a message: it is sent at once to a live session
 abbrev pub told_at : Stage → List ℕ → Session → Result Acted Refusal

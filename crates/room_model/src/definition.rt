@@ -24,13 +24,13 @@ pub fn copy_texts(alloc: Global, texts: &Texts) -> Result<Texts, Memory>
 #[derive(Debug, Drop)]
 pub struct RoomDef {
     pub name: Text,
-    /// How many seats and reservations a room has at most, 1 to 64.
+    /// How many seats and reservations a room has at most, 1 to `MOST_PLACES`.
     pub max: u32,
-    /// How long a reservation lasts, 1 to 3,600,000 ms.
+    /// How long a reservation lasts, 1 to `LONGEST_TIME` ms.
     pub seat: u64,
-    /// The interval of ticks, 1 to 3,600,000 ms.
+    /// The interval of ticks, 1 to `LONGEST_TIME` ms.
     pub patch: u64,
-    /// How long the seat of a lost connection is kept, 0 to 3,600,000 ms; at 0 it isn't.
+    /// How long the seat of a lost connection is kept, 0 to `LONGEST_TIME` ms; at 0 it isn't.
     pub keep: u64,
     /// The keys of a request's options that have to equal those of the room's creation.
     pub filter: Names,

@@ -3,10 +3,12 @@
 
 pub mod definition;
 pub mod event;
+pub mod limits;
 pub mod refusal;
 pub mod seat;
 
 pub use definition::{Defs, Names, RoomDef, Texts, Words, copy_texts};
 pub use event::{Act, RoomEvent, RoomOut, RoomOuts, Stage};
+pub use limits::{LONGEST_TIME, MOST_PLACES};
 pub use refusal::Refusal;
 pub use seat::SeatFault;

@@ -1,11 +1,12 @@
 -- What a line makes of what was read.
-use Rattle.std.specs.Prelude.{◌≡◌, ℕ, ◌<◌, Bool, true, false, length, Option, Some, None}
+use Rattle.std.specs.Prelude.{◌≡◌, ℕ, ◌≤◌, Bool, true, false, length, Option, Some, None}
+use Rattle.schema_model.specs.Classes.{most_fields}
 use Rattle.text_model.specs.declared.path.Reader.{Reader}
 use Rattle.text_model.specs.Readings.{Progress}
 
--- the class has fewer fields than a row may have
+-- the class has no more fields than one may have
 abbrev pub HasFewFields : Reader → Type 0
-HasFewFields r = length r.path.fields < 64
+HasFewFields r = length r.path.fields ≤ most_fields
 
 -- a line was taken, which gave what was read now; or it wasn't the next line, and nothing has changed
 abbrev pub Takes : Bool → Reader → Reader → Option Reader → Type 0

@@ -1,6 +1,7 @@
 //! The lines of a schedule, each as what it adds to what was read.
 ghost use Rattle.std.specs.Prelude.{◌≡◌, ◌<◌, ◌^◌, ◌&&◌, [], ◌∷◌, IfOk, codes, take, true};
 ghost use Rattle.std.specs.Option.{option_map};
+ghost use Rattle.room_model.specs.Limits.{most_places, longest_time};
 ghost use Rattle.text_model.specs.Decimals.{decimal_within};
 ghost use Rattle.text_model.specs.Marks.{is_room_name};
 ghost use Rattle.text_model.specs.Readings.{ask_line, asked_line, class_line, events_line, field_line, frame_line, is_word, later_line, line_read, live_line, moment_line, open_line, opened_line, process_line, put_line, read_def, room_line, root_line, tick_line, with_def, words_of};
@@ -11,7 +12,7 @@ use crate::decimal::read_signed;
 use crate::names::{is_room_name, read_id};
 use crate::reader::{add_item, has_name, is_join_target, is_opening_target, name_text, read_def};
 use lists::Memory;
-use schema_model::ConnNum;
+use schema_model::{ConnNum, MOST_FIELDS};
 use schema_reader::decimal::{read_below, read_decimal};
 use schema_reader::line::first_words;
 use schema_reader::names::{is_class_name, is_field_name, is_word};
@@ -54,7 +55,7 @@ fn add_field(
     if !is_field_name(name) || has_name(&reader.path.fields, name) {
         return Ok(false);
     }
-    if reader.path.fields.len() >= 63 {
+    if reader.path.fields.len() >= MOST_FIELDS {
         return Ok(false);
     }
     reader.path.fields.push(name_text(alloc, name)?)?;
@@ -134,8 +135,8 @@ fn add_def(
     ensures { IfOk result
         (λ taken. Takes taken reader.old reader.new
         (option_map (λ d. with_def d reader.old)
-        (read_def name.now (decimal_within 1 64 max.now) (decimal_within 1 3600000 seat.now)
-        (decimal_within 1 3600000 patch.now) (decimal_within 0 3600000 keep.now)))) }
+        (read_def name.now (decimal_within 1 most_places max.now) (decimal_within 1 longest_time seat.now)
+        (decimal_within 1 longest_time patch.now) (decimal_within 0 longest_time keep.now)))) }
 {
     let Some(def) = read_def(alloc, name, max, seat, patch, keep)? else {
         return Ok(false);

@@ -2,6 +2,7 @@
 ghost use Rattle.std.specs.Prelude.{◌≡◌, [], ◌∷◌, IfOk, OnOk, true};
 ghost use Rattle.std.specs.List.{flat_map, list_all, list_any};
 ghost use Rattle.std.specs.Str.{bytes_eq};
+ghost use Rattle.room_model.specs.Limits.{most_places, longest_time};
 ghost use Rattle.text_model.specs.Decimals.{decimal_within};
 ghost use Rattle.text_model.specs.Marks.{is_id_byte, is_room_name};
 ghost use Rattle.text_model.specs.Readings.{blank_reader, no_def, read_def, with_item};
@@ -9,16 +10,13 @@ ghost use Rattle.hub_model.specs.Replies.{join_or_create_target, opening_target}
 
 use crate::decimal::read_within;
 use lists::{Memory, Seq, Text, TextFault};
-use room_model::{Names, RoomDef};
+use room_model::{LONGEST_TIME, MOST_PLACES, Names, RoomDef};
 use schema_model::{ConnNum, Id};
 use std::alloc::Global;
 use text_model::{FirstPath, Item, Reader, Stage};
 
 /// What stands for an id until it is read.
 const BLANK_ID: Id = Id([b'-'; 9]);
-
-/// The longest interval of a definition, in milliseconds.
-const LONGEST: u64 = 3_600_000;
 
 /// What stands for the room's definition until it is read.
 fn blank_def(alloc: Global) -> RoomDef
@@ -79,14 +77,14 @@ pub fn read_def(
     requires { is_room_name name.now ≡ true }
     ensures { IfOk result
         (λ def. def
-        ≡ read_def name.now (decimal_within 1 64 max.now) (decimal_within 1 3600000 seat.now)
-        (decimal_within 1 3600000 patch.now) (decimal_within 0 3600000 keep.now)) }
+        ≡ read_def name.now (decimal_within 1 most_places max.now) (decimal_within 1 longest_time seat.now)
+        (decimal_within 1 longest_time patch.now) (decimal_within 0 longest_time keep.now)) }
 {
     let (Some(max), Some(seat), Some(patch), Some(keep)) = (
-        read_within(max, 1, 64),
-        read_within(seat, 1, LONGEST),
-        read_within(patch, 1, LONGEST),
-        read_within(keep, 0, LONGEST),
+        read_within(max, 1, MOST_PLACES),
+        read_within(seat, 1, LONGEST_TIME),
+        read_within(patch, 1, LONGEST_TIME),
+        read_within(keep, 0, LONGEST_TIME),
     ) else {
         return Ok(None);
     };

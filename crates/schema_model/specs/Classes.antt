@@ -88,9 +88,16 @@ abbrev pub parents_earlier : ℕ → List Class → Bool
 parents_earlier n [] = true
 parents_earlier n (c ∷ cs) = is_earlier n c.parent && parents_earlier (suc n) cs
 
--- at most 256 classes, type numbers in range, parents earlier, at most 63 fields in a class
+-- how many classes a schema has at most, and how many fields a class
+abbrev pub most_classes : ℕ
+most_classes = 256
+
+abbrev pub most_fields : ℕ
+most_fields = 63
+
+-- few classes, type numbers in range, parents earlier, few fields in each class
 abbrev pub is_kept : Schema → Bool
 is_kept s =
-    nat_le (length s.classes) 256 && nat_lt s.root (length s.classes) && parents_earlier 0 s.classes
+    nat_le (length s.classes) most_classes && nat_lt s.root (length s.classes) && parents_earlier 0 s.classes
     && list_all (λ (c : Class). list_all (λ (f : FieldDecl). item_in_range (length s.classes) (item_of f.shape)) c.own) s.classes
-    && list_all (λ (fs : List Declared). nat_le (length fs) 63) (fields_from [] s.classes)
+    && list_all (λ (fs : List Declared). nat_le (length fs) most_fields) (fields_from [] s.classes)

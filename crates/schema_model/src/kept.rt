@@ -3,14 +3,11 @@ ghost use Rattle.std.specs.Prelude.{◌≡◌, ◌≤◌, List, [], length, nat_
 ghost use Rattle.std.specs.List.{list_all};
 ghost use Rattle.schema_model.specs.declared.class.Class.{Class};
 ghost use Rattle.schema_model.specs.declared.class.FieldDecl.{FieldDecl};
-ghost use Rattle.schema_model.specs.Classes.{is_kept, is_earlier, parents_earlier, item_of, item_in_range, fields_from, Declared};
+ghost use Rattle.schema_model.specs.Classes.{is_kept, is_earlier, parents_earlier, item_of, item_in_range, fields_from, most_classes, most_fields, Declared};
 
 use crate::class::{Class, FieldDecl, Item};
+use crate::limits::{MOST_CLASSES, MOST_FIELDS};
 use crate::number::TypeNum;
-
-const MOST_CLASSES: usize = 256;
-
-const MOST_FIELDS: usize = 63;
 
 /// These classes make a schema with this one as the root's.
 pub fn makes_schema(classes: &[Class], root: TypeNum) -> bool
@@ -71,8 +68,8 @@ fn is_item_in_range(count: usize, item: Item) -> bool
 
 // Each class's fields are counted once: its parent was counted before it.
 fn are_classes_small(classes: &[Class]) -> bool
-    requires { length classes.now ≤ 256 }
-    ensures { result ≡ list_all (λ (fs : List Declared). nat_le (length fs) 63) (fields_from [] classes.now) }
+    requires { length classes.now ≤ most_classes }
+    ensures { result ≡ list_all (λ (fs : List Declared). nat_le (length fs) most_fields) (fields_from [] classes.now) }
 {
     let mut counts = [0; MOST_CLASSES];
     for (number, class) in classes.iter().enumerate() {

@@ -4,6 +4,7 @@
 pub mod class;
 pub mod fault;
 mod kept;
+pub mod limits;
 mod lookup;
 pub mod number;
 pub mod place;
@@ -13,6 +14,7 @@ pub mod value;
 
 pub use class::{Class, Classes, FieldDecl, Fields, Item, Shape, copy_classes, copy_fields};
 pub use fault::{ReadFault, ScalarFault};
+pub use limits::{LAST_NUMBER, MOST_CLASSES, MOST_FIELDS};
 pub use lists::{Bytes, Memory, Seq, Text, TextFault};
 pub use number::{ConnNum, Id, RefNum, Tag, TypeNum};
 pub use place::{Home, Key, Pair, Place};

@@ -2,7 +2,7 @@
 ghost use Rattle.std.specs.Prelude.{◌≡◌, IsTrue, List, [], length, map, slice_get, nat_le, option_copied, option_and_then};
 ghost use Rattle.std.specs.List.{list_all};
 ghost use Rattle.std.specs.Option.{option_map};
-ghost use Rattle.schema_model.specs.Classes.{field_of, fields_of, home_of, home_field, is_kind_of, parent_of, parents_earlier, fields_from, Declared};
+ghost use Rattle.schema_model.specs.Classes.{field_of, fields_of, home_of, home_field, is_kind_of, parent_of, parents_earlier, fields_from, most_fields, Declared};
 
 use crate::class::{Class, FieldDecl};
 use crate::number::TypeNum;
@@ -73,7 +73,7 @@ fn class_of(classes: &[Class], number: Option<TypeNum>) -> Option<&Class>
 // How many fields a class has with its ancestors.
 fn field_count(classes: &[Class], class: TypeNum) -> usize
     requires earlier { IsTrue (parents_earlier 0 classes.now) }
-    requires small { IsTrue (list_all (λ (fs : List Declared). nat_le (length fs) 63) (fields_from [] classes.now)) }
+    requires small { IsTrue (list_all (λ (fs : List Declared). nat_le (length fs) most_fields) (fields_from [] classes.now)) }
     ensures { result ≡ length (fields_of (record { classes = classes.now; root = 0 }) class) }
 {
     let mut count = 0;

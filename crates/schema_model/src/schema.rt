@@ -1,4 +1,4 @@
-ghost use Rattle.std.specs.Prelude.{◌≡◌, IfOk, Some, None, if◌then◌else◌};
+ghost use Rattle.std.specs.Prelude.{◌≡◌, IfOk, IsTrue, Some, None, if◌then◌else◌};
 ghost use Rattle.schema_model.specs.Classes.{is_kept};
 
 use crate::class::{Classes, copy_classes};
@@ -8,8 +8,9 @@ use lists::Memory;
 use std::alloc::Global;
 use std::marker::Model;
 
-/// A list of classes and the class of the root. It has at most 256 classes, its type numbers are in
-/// range, its parents stand earlier, and no class has more than 63 fields in all.
+/// A list of classes and the class of the root. It has at most `MOST_CLASSES` classes, its type
+/// numbers are in range, its parents stand earlier, and no class has more than `MOST_FIELDS` fields
+/// in all.
 #[derive(Debug, Drop)]
 pub struct Schema {
     pub classes: Classes,
@@ -38,6 +39,13 @@ impl Schema {
         } else {
             None
         }
+    }
+
+    /// A schema keeps its limits. It does nothing else than to say so.
+    pub fn know_limits(&self)
+        ensures { IsTrue (is_kept self.now) }
+    {
+        let _ = &self.root;
     }
 
     /// A second schema with the same classes.

@@ -7,6 +7,7 @@ use Rattle.std.specs.HashMap.{HashMap}
 use Rattle.std.specs.declared.hash.FoldHasher.{FoldHasher}
 use Rattle.std.specs.declared.hash.BuildHasherDefault.{BuildHasherDefault}
 use Rattle.std.specs.Str.{bytes_eq}
+use Rattle.schema_model.specs.Classes.{most_classes}
 use Rattle.schema_text.specs.SchemaReading.{class_place, names_from}
 use Rattle.schema_text.specs.declared.draft.DraftClass.{DraftClass}
 use Rattle.schema_reader.specs.Words.{bytes_of}
@@ -27,4 +28,4 @@ all_names names = map (λ ns. bytes_of ns.items) names
 pub record IsIndexed (classes : List DraftClass) (places : Places) (names : List (Vec (Bor (List ℕ)) Global)) : Type 0 where
   pub found : (name : List ℕ) → place_in places name ≡ class_place classes name
   pub named : all_names names ≡ names_from [] classes
-  pub few : length classes ≤ 256
+  pub few : length classes ≤ most_classes

@@ -12,14 +12,11 @@ ghost use Rattle.std.specs.HashMap.{IsUnchanged};
 use crate::names::is_one_of;
 use crate::words::name_text;
 use lists::{Memory, Seq};
-use schema_model::TypeNum;
+use schema_model::{MOST_CLASSES, TypeNum};
 use schema_text::{DraftClass, DraftField, DraftRoot};
 use std::alloc::{AllocError, Global};
 use std::collections::HashMap;
 use std::marker::Model;
-
-/// How many classes a schema has at most.
-pub const MOST_CLASSES: usize = 256;
 
 /// Adds the place of a name.
 fn add_place<'a>(

@@ -11,17 +11,14 @@ ghost use Rattle.schema_reader.specs.Gives.{Gives, taken};
 ghost use Rattle.schema_reader.specs.Words.{bytes_of};
 
 use crate::decimal::read_tag;
-use crate::draft::{Draft, MOST_CLASSES};
+use crate::draft::Draft;
 use crate::form::{Form, TagMark, line_form};
 use crate::line::first_words;
 use crate::words::{is_fractional, name_text};
 use lists::Memory;
-use schema_model::{Tag, TypeNum};
+use schema_model::{MOST_CLASSES, MOST_FIELDS, Tag, TypeNum};
 use schema_text::{DraftField, DraftRoot, Grouping, SchemaFault};
 use std::alloc::Global;
-
-/// How many fields a class has at most.
-const MOST_FIELDS: usize = 63;
 
 /// The place of the parent, where there is one; it has to be declared before.
 fn parent_place(

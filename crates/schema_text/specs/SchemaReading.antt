@@ -4,7 +4,7 @@ use Rattle.std.specs.Prelude.{ℕ, suc, ◌-◌, Bool, false, ◌&&◌, List, []
 use Rattle.std.specs.List.{flat_map, list_any}
 use Rattle.std.specs.Option.{option_map, option_map_or}
 use Rattle.std.specs.Str.{bytes_eq}
-use Rattle.schema_model.specs.Classes.{Schema}
+use Rattle.schema_model.specs.Classes.{Schema, most_classes, most_fields}
 use Rattle.schema_model.specs.Reading.{◌>>=◌}
 use Rattle.schema_model.specs.declared.class.Class.{Class}
 use Rattle.schema_model.specs.declared.class.FieldDecl.{FieldDecl}
@@ -131,7 +131,7 @@ with_class d name parent = record { classes = d.classes ++ record { name = name;
 abbrev pub class_taken : ℕ → Draft → List ℕ → Option (List ℕ) → Result Draft SchemaFault
 class_taken line d name parent = unless_any
     ((is_some (class_place d.classes name), TwiceClass line) ∷ (is_later d.classes parent, ParentLater line)
-    ∷ (nat_le 256 (length d.classes), TooManyClasses line) ∷ [])
+    ∷ (nat_le most_classes (length d.classes), TooManyClasses line) ∷ [])
     (with_class d name (parent_place d.classes parent))
 
 -- the tag: -1 for the default one
@@ -154,7 +154,7 @@ with_field (c ∷ e ∷ cs) f = c ∷ with_field (e ∷ cs) f
 abbrev pub field_taken : ℕ → Draft → List ℕ → Grouping → List ℕ → Tagging → Result Draft SchemaFault
 field_taken line d name grouping word tagging = unless_any
     ((is_one_of fractional_words word, FractionalKind line) ∷ (is_bad_tag tagging, BadTag line)
-    ∷ (list_any (bytes_eq name) (last_names d.classes), TwiceField line) ∷ (nat_le 63 (length (last_names d.classes)), TooManyFields line) ∷ [])
+    ∷ (list_any (bytes_eq name) (last_names d.classes), TwiceField line) ∷ (nat_le most_fields (length (last_names d.classes)), TooManyFields line) ∷ [])
     (record {
       classes = with_field d.classes (record { name = name; grouping = grouping; word = word; tag = tag_of tagging; line = line });
       root = d.root;

@@ -24,7 +24,8 @@ pub fn encode_shared<L: Ledger>(
     ensures part { IfOk result (λ part. part ≡ shared_part_of live.now shared.now) }
     ensures cost { steps.new ≤ steps.old + encoding_steps shared.now }
 {
-    count_places(shared.before(), steps);
-    count_places(shared.after(), steps);
-    patch(alloc, live.schema(), shared.before(), shared.after())
+    let (before, after) = (shared.before(), shared.after());
+    count_places(before, steps);
+    count_places(after, steps);
+    patch(alloc, live.schema(), before, after)
 }

@@ -213,6 +213,9 @@ a_view_edit_of_a_collection_reaches_its_items : map (pairs_behind z.zoo z.zoo_ro
     ≡ (at_seven 2 ∷ at_seven 4 ∷ at_seven 5 ∷ at_seven 6 ∷ []) ∷ (at_seven 6 ∷ []) ∷ []
 a_view_edit_of_a_collection_reaches_its_items = refl
 
+a_view_edit_of_a_row_that_is_not_there_adds_nothing : pairs_behind z.zoo z.zoo_rows (ex.seen_row 7) ≡ []
+a_view_edit_of_a_row_that_is_not_there_adds_nothing = refl
+
 -- ---- members
 
 abbrev members_of : List Pair → List Pair → List Pair → Members

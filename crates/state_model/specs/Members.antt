@@ -1,5 +1,5 @@
 -- The members of a view: three sets of pairs, and how view edits and ticks change them. After the StateView of `@colyseus/schema` 3; the limit is ours.
-use Rattle.std.specs.Prelude.{ℕ, ◌+◌, ◌*◌, Bool, true, false, not, List, [], ◌∷◌, map, filter, length, ℤ, pos, ◌+ℤ◌, nat_abs, Option, nat_lt}
+use Rattle.std.specs.Prelude.{ℕ, ◌+◌, ◌*◌, Bool, true, false, not, List, [], ◌∷◌, map, filter, length, ℤ, pos, ◌+ℤ◌, nat_abs, Option, nat_lt, if◌then◌else◌}
 use Rattle.std.specs.Option.{option_map_or}
 use Rattle.lists.specs.Rising as rising
 use Rattle.schema_model.specs.Classes.{Schema}
@@ -51,11 +51,12 @@ abbrev pub rows_through : Schema → ℤ → List RowEntry → List RowEntry
 rows_through schema tag rows =
     map (λ (e : RowEntry). let s : RowEntry = record { who = e.who; row = row_through schema tag e.row } in s) rows
 
--- the pairs of a view edit: of the row, and of every row reached from it through places that are untagged or have the tag
+-- the pairs of a view edit: of the row, and of every row reached from it through places that are untagged or have the tag; none where the row isn't live
 abbrev pub pairs_behind : Schema → List RowEntry → Pair → List Pair
 pairs_behind schema rows p =
-    map (λ n. let q : Pair = record { who = n; tag = p.tag } in q)
-    (reached (rows_through schema p.tag rows) p.who)
+    if is_live rows p.who
+    then map (λ n. let q : Pair = record { who = n; tag = p.tag } in q) (reached (rows_through schema p.tag rows) p.who)
+    else []
 
 -- after a row was added to the view
 abbrev pub view_added : Schema → List RowEntry → Pair → Members → Members

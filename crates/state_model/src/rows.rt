@@ -58,6 +58,13 @@ impl Rows {
         Ok(rows)
     }
 
+    /// The numbers of the rows rise. It does nothing else than to say so.
+    pub fn know_rising(&self)
+        ensures { RisesFrom number_of 0 self.now }
+    {
+        let _ = &self.entries;
+    }
+
     pub fn as_slice(&self) -> &[RowEntry]
         ensures value { result.now ≡ self.now }
         ensures rises { RisesFrom number_of 0 self.now }

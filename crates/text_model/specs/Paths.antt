@@ -3,7 +3,8 @@ use Rattle.std.specs.Prelude.{◌≡◌, ℕ, ◌^◌, Bool, true, false, not, �
 use Rattle.std.specs.List.{list_all, flat_map}
 use Rattle.std.specs.Str.{bytes_eq}
 use Rattle.std.specs.Fmt.{decimal}
-use Rattle.schema_model.specs.Classes.{Schema}
+use Rattle.room_model.specs.Limits.{most_places, longest_time}
+use Rattle.schema_model.specs.Classes.{Schema, most_fields}
 use Rattle.schema_model.specs.Fits.{in_signed}
 use Rattle.schema_model.specs.declared.class.FieldDecl.{FieldDecl}
 use Rattle.schema_model.specs.declared.class.Shape.TheVariants as shape
@@ -108,8 +109,8 @@ is_within low high n = nat_le low n && nat_le n high
 -- a definition without filter, within the limits
 abbrev pub is_definition : RoomDef → Bool
 is_definition d =
-    is_room_name d.name && is_within 1 64 d.max && is_within 1 3600000 d.seat && is_within 1 3600000 d.patch
-    && is_within 0 3600000 d.keep && (length d.filter == 0)
+    is_room_name d.name && is_within 1 most_places d.max && is_within 1 longest_time d.seat && is_within 1 longest_time d.patch
+    && is_within 0 longest_time d.keep && (length d.filter == 0)
 
 -- an event that may come between the request and the opening: a put of a number to a field, or a tick
 abbrev pub is_turn : ℕ → Item → Bool
@@ -125,7 +126,7 @@ is_later_turn fields i = is_turn fields i
 -- the names, ids and numbers are of their forms; the fields' names differ, and the room's id is not the session's
 abbrev pub is_path : Path → Bool
 is_path p =
-    is_class_name p.class && list_all is_field_name p.fields && keys_differ p.fields && is_within 1 63 (length p.fields)
+    is_class_name p.class && list_all is_field_name p.fields && keys_differ p.fields && is_within 1 most_fields (length p.fields)
     && is_id p.process && is_definition p.def && is_id p.room && is_id p.session && not (bytes_eq p.room p.session) && is_id p.fresh
     && list_all (λ ms. nat_lt ms (2 ^ 64)) p.moments && nat_lt p.asker (2 ^ 64) && nat_lt p.opener (2 ^ 64)
     && list_all (is_turn (length p.fields)) p.waiting && list_all (is_later_turn (length p.fields)) p.opened

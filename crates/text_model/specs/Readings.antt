@@ -3,6 +3,8 @@ use Rattle.std.specs.Prelude.{◌≡◌, ℕ, suc, ◌-◌, ◌^◌, Bool, true,
 use Rattle.std.specs.List.{fold, list_any, slice_split}
 use Rattle.std.specs.Option.{option_map, option_map_or}
 use Rattle.std.specs.Str.{bytes_eq}
+use Rattle.room_model.specs.Limits.{most_places, longest_time}
+use Rattle.schema_model.specs.Classes.{most_fields}
 use Rattle.room_model.specs.declared.definition.RoomDef.{RoomDef}
 use Rattle.hub_model.specs.Replies.{join_or_create_target, opening_target}
 use Rattle.text_model.specs.declared.path.Item.{Item}
@@ -153,7 +155,7 @@ class_line r ws = None
 abbrev pub field_line : Reader → List (List ℕ) → Option Reader
 field_line r (w ∷ name ∷ k ∷ []) =
     if is_word (codes "field") w && is_word (codes "number") k && is_field_name name
-    && not (list_any (bytes_eq name) r.path.fields) && nat_lt (length r.path.fields) 63
+    && not (list_any (bytes_eq name) r.path.fields) && nat_lt (length r.path.fields) most_fields
     then Some (with_field name r) else None
 field_line r ws = None
 
@@ -176,7 +178,7 @@ room_line r (w ∷ name ∷ wn ∷ n ∷ ws ∷ seat ∷ wp ∷ patch ∷ wk ∷
     if is_word (codes "room") w && is_word (codes "max") wn && is_word (codes "seat") ws && is_word (codes "patch") wp
     && is_word (codes "keep") wk && is_room_name name
     then option_map (λ d. with_def d r)
-    (read_def name (decimal_within 1 64 n) (decimal_within 1 3600000 seat) (decimal_within 1 3600000 patch) (decimal_within 0 3600000 keep))
+    (read_def name (decimal_within 1 most_places n) (decimal_within 1 longest_time seat) (decimal_within 1 longest_time patch) (decimal_within 0 longest_time keep))
     else None
 room_line r ws = None
 

@@ -72,7 +72,8 @@ impl<T: Keyed> Numbered<T> {
 
     /// The number of the item at a place. It passes over all items and holes in front of it.
     pub fn number_at(&self, place: usize) -> Option<u32>
-        ensures { result ≡ slice_get (map T.key self.now) place }
+        ensures number { result ≡ slice_get (map T.key self.now) place }
+        ensures rises { RisesFrom T.key 0 self.now }
     {
         let item = nth_item(self.slots.as_slice(), place)?;
         Some(item.key())

@@ -92,7 +92,7 @@ module _ (schema : Schema) (rows : List RowEntry) (sound : are_sound schema rows
   behind_there p live =
       let numbers = reached (rows_through schema p.tag rows) p.who in
       let pair = λ (n : ℕ). let q : Pair = record { who = n; tag = p.tag } in q in
-      list_all-map (λ (q : Pair). is_live rows q.who) pair numbers ∙ all_among (is_live rows) numbers (λ n h. reached_there p.tag p.who n live h)
+      rw live (list_all-map (λ (q : Pair). is_live rows q.who) pair numbers ∙ all_among (is_live rows) numbers (λ n h. reached_there p.tag p.who n live h))
 
   -- with what is behind such a row the pairs of a view are still of rows that are there
   pub added_there : (p : Pair) (pairs : List Pair) (old new : Members) → is_live rows p.who ≡ true → pairs ≡ pairs_behind schema rows p → new ≡ with_all pairs old → are_there rows old.now ≡ true → are_there rows new.now ≡ true

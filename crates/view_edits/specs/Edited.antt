@@ -1,5 +1,5 @@
 -- What the answer to a view edit tells. After the StateView of `@colyseus/schema` 3; the limit is ours.
-use Rattle.std.specs.Prelude.{◌≡◌, ℕ, true, false, List, Result, Ok, Err}
+use Rattle.std.specs.Prelude.{◌≡◌, ◌≤◌, ℕ, true, false, List, Result, Ok, Err}
 use Rattle.schema_model.specs.Classes.{Schema}
 use Rattle.schema_model.specs.declared.place.Pair.{Pair}
 use Rattle.state_model.specs.declared.row.RowEntry.{RowEntry}
@@ -23,9 +23,9 @@ Hides schema rows p old new (Err NoRef) = (is_live rows p.who ≡ false) × (new
 Hides schema rows p old new (Err ViewFull) = ⊥
 Hides schema rows p old new (Err Memory) = new ≡ old
 
--- the steps after an edit are these, but where memory was wanting
+-- the steps after an edit are these; where memory was wanting they are no more
 abbrev pub Costs : ℕ → ℕ → Result (Unit {0}) EditFault → Type 0
 Costs told steps (Ok done) = steps ≡ told
 Costs told steps (Err NoRef) = steps ≡ told
 Costs told steps (Err ViewFull) = steps ≡ told
-Costs told steps (Err Memory) = Unit {0}
+Costs told steps (Err Memory) = steps ≤ told

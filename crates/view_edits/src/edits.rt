@@ -28,7 +28,7 @@ pub fn show<L: Ledger>(
     ensures there { are_there (rows_of live.now) members.old.now ≡ true → are_there (rows_of live.now) members.new.now ≡ true }
 {
     // The rows of a live state are sound: what is behind a row that is there is there too.
-    let _ = live.schema();
+    live.know_rows();
     let pairs = live.expand(pair.who, pair.tag, steps)?;
     members.add_all(pairs.as_slice())?;
     Ok(())

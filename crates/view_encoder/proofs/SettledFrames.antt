@@ -1,4 +1,4 @@
--- The parts of a frame between two settled views: they have bytes, and these are the frame's.
+-- The parts of a frame between two settled views: each can be made, and they have bytes, which are the frame's.
 use Rattle.std.proofs.Common.{◌≡◌, true, false, List, [], ◌++◌, refl, ap, ◌∙◌}
 use Rattle.schema_model.specs.Classes.{Schema, is_kept}
 use Rattle.state_model.specs.declared.row.RowEntry.{RowEntry}
@@ -9,17 +9,26 @@ use Rattle.state_model.specs.Sound.{Sound}
 use Rattle.wire_model.specs.declared.op.Block.{Block}
 use Rattle.wire_model.specs.Frame.{patch, state_frame}
 use Rattle.wire_model.specs.OpBytes.{block_bytes}
+use Rattle.wire_model.specs.Patch.{are_short}
 use Rattle.wire_model.specs.Resolved.{applied}
 use Rattle.wire_laws.specs.FrameLaw.{Moment, view_at, Follows}
 use Rattle.wire_laws.proofs.StateFrames.{root_follows}
 use Rattle.block_laws.specs.Writable.{are_writable}
 use Rattle.state_model.specs.Spelled.{are_spelled}
 use Rattle.byte_laws.proofs.PartsBytes.{parts_have_bytes}
+use Rattle.canon_patch.specs.Kinds.{kinds_agree}
+use Rattle.canon_patch.proofs.KindsKept.{views_agree, left_agrees}
 use Rattle.live_state.specs.Live.{Live, schema_of, rows_of}
 use Rattle.view_counts.specs.Settled.{View, AreSettled, view_before, view_now}
 
--- the parts of a frame from one view to another: the shared part and the patch from what it leaves have bytes, which are the frame's
+-- the parts of a frame from one view to another: the rows that each leads to, and those that the shared part leaves, are short; the rows that each leads from and to agree in kind;
+-- and the shared part and the patch from what it leaves have bytes, which are the frame's
 pub record IsFrame (schema : Schema) (shared0 permitted0 shared1 permitted1 : List RowEntry) (part : List Block) : Type 0 where
+  pub shared_short : are_short schema shared1 ≡ true
+  pub shared_kinds : kinds_agree shared0 shared1 ≡ true
+  pub left_short : are_short schema (applied schema permitted0 part) ≡ true
+  pub view_short : are_short schema permitted1 ≡ true
+  pub own_kinds : kinds_agree (applied schema permitted0 part) permitted1 ≡ true
   pub shared_written : are_writable part ≡ true
   pub own_written : are_writable (patch schema (applied schema permitted0 part) permitted1) ≡ true
   pub bytes : block_bytes part true ++ block_bytes (patch schema (applied schema permitted0 part) permitted1) false ≡ state_frame schema shared0 permitted0 shared1 permitted1
@@ -31,6 +40,11 @@ moments_frame schema old new kept f old_bytes new_bytes =
     let h = parts_have_bytes schema old new kept f old_bytes new_bytes in
     let own = ap (λ rows. patch schema rows (view_at schema new)) h.shared_means in
     record {
+      shared_short = h.new_shared_short;
+      shared_kinds = views_agree schema old.rows new.rows [] [] f;
+      left_short = h.left_short;
+      view_short = h.view_short;
+      own_kinds = ap (λ rows. kinds_agree rows (view_at schema new)) h.shared_means ∙ left_agrees schema old.rows new.rows old.members new.members f;
       shared_written = h.shared_written;
       own_written = ap are_writable own ∙ h.view_written;
       bytes = ap (λ bs. block_bytes (patch schema (shared schema old.rows) (shared schema new.rows)) true ++ block_bytes bs false) own;

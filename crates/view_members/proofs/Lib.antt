@@ -1,5 +1,6 @@
-pub mod ComeLaws
+pub mod AddLaws
 pub mod EntryLaws
+pub mod KeptLaws
 pub mod MemberLaws
 pub mod PairLists
 pub mod PlaceLaws

@@ -11,7 +11,7 @@ use Rattle.state_model.specs.Members.{Members, pair_rank, differs, changed_pairs
 use Rattle.state_model.specs.Shown.{is_member}
 use Rattle.view_members.specs.declared.standing.Standing.{Standing}
 use Rattle.view_members.specs.Sets.{without_all}
-use Rattle.view_members.specs.Standings.{itself, entry_rank, standing_of, ranks_of, pairs_of, pair_of_rank, members_of, is_now, is_last, is_kept, is_changed, is_spare, after_coming, after_leaving, set_at, come_at, leave_at}
+use Rattle.view_members.specs.Standings.{itself, entry_rank, standing_of, ranks_of, pairs_of, pair_of_rank, members_of, is_now, is_last, is_kept, is_changed, is_spare, after_coming, after_leaving, set_at, add_at, remove_at}
 use Rattle.view_members.proofs.StandingLaws.{leaving_now, leaving_last, leaving_kept, leaving_spare, changed_differs}
 use Rattle.view_members.proofs.RankLists.{has, has_some, has_none, ranks_rise, find-ranks, put_fails, put_same, length-put_same}
 use Rattle.view_members.proofs.PairLists.{rank_again, tag_fits, pairs-filter, pairs_without, without_more, without_nothing, member_ranked, with_mapped, with_ranks, with_rise, find-with}
@@ -21,32 +21,32 @@ ranks_missing : (t : Standing → Bool) (es : List (ℕ × Standing)) (r : ℕ) 
 ranks_missing t es r rises h = sym (remove_missing itself r (ranks_of t es) (find-ranks t 0 es r rises ∙ ap (λ b. cond b (Some r) None) h))
 
 -- the entries after a pair leaves
-leave_case : (es : List (ℕ × Standing)) (r : ℕ) → RisesFrom entry_rank 0 es → (o : Option Standing) → standing_of r es ≡ o → (t : Standing → Bool) → ((s : Standing) → t (after_leaving s) ≡ t s) → ranks_of t (set_at r (option_map after_leaving o) es) ≡ ranks_of t es
-leave_case es r rises None h t same = refl
-leave_case es r rises (Some s) h t same = put_same t r (after_leaving s) es rises (has_some t es r s h ∙ sym (same s))
+remove_case : (es : List (ℕ × Standing)) (r : ℕ) → RisesFrom entry_rank 0 es → (o : Option Standing) → standing_of r es ≡ o → (t : Standing → Bool) → ((s : Standing) → t (after_leaving s) ≡ t s) → ranks_of t (set_at r (option_map after_leaving o) es) ≡ ranks_of t es
+remove_case es r rises None h t same = refl
+remove_case es r rises (Some s) h t same = put_same t r (after_leaving s) es rises (has_some t es r s h ∙ sym (same s))
 
-leave_now : (es : List (ℕ × Standing)) (r : ℕ) → RisesFrom entry_rank 0 es → (o : Option Standing) → standing_of r es ≡ o → ranks_of is_now (set_at r (option_map after_leaving o) es) ≡ remove itself r (ranks_of is_now es)
-leave_now es r rises None h = ranks_missing is_now es r rises (has_none is_now es r h)
-leave_now es r rises (Some s) h = put_fails is_now r (after_leaving s) es rises (leaving_now s)
+remove_now : (es : List (ℕ × Standing)) (r : ℕ) → RisesFrom entry_rank 0 es → (o : Option Standing) → standing_of r es ≡ o → ranks_of is_now (set_at r (option_map after_leaving o) es) ≡ remove itself r (ranks_of is_now es)
+remove_now es r rises None h = ranks_missing is_now es r rises (has_none is_now es r h)
+remove_now es r rises (Some s) h = put_fails is_now r (after_leaving s) es rises (leaving_now s)
 
 -- what doesn't tell leaving from staying is as before
-pub leave_same : (t : Standing → Bool) → ((s : Standing) → t (after_leaving s) ≡ t s) → (es : List (ℕ × Standing)) (r : ℕ) → RisesFrom entry_rank 0 es → ranks_of t (leave_at r es) ≡ ranks_of t es
-leave_same t same es r rises = leave_case es r rises (standing_of r es) refl t same
+pub remove_same : (t : Standing → Bool) → ((s : Standing) → t (after_leaving s) ≡ t s) → (es : List (ℕ × Standing)) (r : ℕ) → RisesFrom entry_rank 0 es → ranks_of t (remove_at r es) ≡ ranks_of t es
+remove_same t same es r rises = remove_case es r rises (standing_of r es) refl t same
 
-pub leave_ranks : (es : List (ℕ × Standing)) (r : ℕ) → RisesFrom entry_rank 0 es → ranks_of is_now (leave_at r es) ≡ remove itself r (ranks_of is_now es)
-leave_ranks es r rises = leave_now es r rises (standing_of r es) refl
+pub remove_ranks : (es : List (ℕ × Standing)) (r : ℕ) → RisesFrom entry_rank 0 es → ranks_of is_now (remove_at r es) ≡ remove itself r (ranks_of is_now es)
+remove_ranks es r rises = remove_now es r rises (standing_of r es) refl
 
 -- the members after a pair leaves
-pub leave_members : (es : List (ℕ × Standing)) (p : Pair) → FitsSigned w16 p.tag → RisesFrom entry_rank 0 es → members_of (leave_at (pair_rank p) es) ≡ without_all (p ∷ []) (members_of es)
-leave_members es p f rises =
-    let fs = leave_at (pair_rank p) es in
-    let now = pairs_without is_now es fs p f (leave_ranks es (pair_rank p) rises) in
-    let last = ap (map pair_of_rank) (leave_same is_last leaving_last es (pair_rank p) rises) in
-    let kept = ap (map pair_of_rank) (leave_same is_kept leaving_kept es (pair_rank p) rises) in
+pub remove_members : (es : List (ℕ × Standing)) (p : Pair) → FitsSigned w16 p.tag → RisesFrom entry_rank 0 es → members_of (remove_at (pair_rank p) es) ≡ without_all (p ∷ []) (members_of es)
+remove_members es p f rises =
+    let fs = remove_at (pair_rank p) es in
+    let now = pairs_without is_now es fs p f (remove_ranks es (pair_rank p) rises) in
+    let last = ap (map pair_of_rank) (remove_same is_last leaving_last es (pair_rank p) rises) in
+    let kept = ap (map pair_of_rank) (remove_same is_kept leaving_kept es (pair_rank p) rises) in
     cc
 
-pub leave_spare : (es : List (ℕ × Standing)) (r : ℕ) → RisesFrom entry_rank 0 es → ranks_of is_spare (leave_at r es) ≡ ranks_of is_spare es
-leave_spare es r rises = leave_same is_spare leaving_spare es r rises
+pub remove_spare : (es : List (ℕ × Standing)) (r : ℕ) → RisesFrom entry_rank 0 es → ranks_of is_spare (remove_at r es) ≡ ranks_of is_spare es
+remove_spare es r rises = remove_same is_spare leaving_spare es r rises
 
 there : (es : List (ℕ × Standing)) (r : ℕ) (s : Standing) → standing_of r es ≡ Some s → is_some (find entry_rank r es) ≡ true
 there [] r s h = cc
@@ -56,11 +56,11 @@ set_length : (es : List (ℕ × Standing)) (r : ℕ) (f : Standing → Standing)
 set_length es r f rises None h = refl
 set_length es r f rises (Some s) h = length-put_same r (f s) es rises (there es r s h)
 
-pub leave_length : (es : List (ℕ × Standing)) (r : ℕ) → RisesFrom entry_rank 0 es → length (leave_at r es) ≡ length es
-leave_length es r rises = set_length es r after_leaving rises (standing_of r es) refl
+pub remove_length : (es : List (ℕ × Standing)) (r : ℕ) → RisesFrom entry_rank 0 es → length (remove_at r es) ≡ length es
+remove_length es r rises = set_length es r after_leaving rises (standing_of r es) refl
 
-pub come_length : (es : List (ℕ × Standing)) (r : ℕ) → RisesFrom entry_rank 0 es → length (come_at r es) ≡ length es
-come_length es r rises = set_length es r after_coming rises (standing_of r es) refl
+pub add_length : (es : List (ℕ × Standing)) (r : ℕ) → RisesFrom entry_rank 0 es → length (add_at r es) ≡ length es
+add_length es r rises = set_length es r after_coming rises (standing_of r es) refl
 
 -- a pair is a member where its entry is there and passes
 pub member_has : (t : Standing → Bool) (es : List (ℕ × Standing)) (p : Pair) → FitsSigned w16 p.tag → RisesFrom entry_rank 0 es → is_member (pairs_of t es) p.who p.tag ≡ has t es (pair_rank p)

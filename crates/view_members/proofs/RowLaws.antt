@@ -7,11 +7,11 @@ use Rattle.lists.specs.Rising.{RisesFrom, IsAbove, find, remove}
 use Rattle.lists.proofs.RisingLaws.{RisesFrom-filter, same_rising}
 use Rattle.view_members.specs.declared.standing.Standing.{Standing}
 use Rattle.view_members.specs.Sets.{without_row}
-use Rattle.view_members.specs.Standings.{itself, entry_rank, ranks_of, pair_of_rank, members_of, first_from, is_now, is_last, is_kept, standing_of, set_at, after_leaving, leave_at}
+use Rattle.view_members.specs.Standings.{itself, entry_rank, ranks_of, pair_of_rank, members_of, first_from, is_now, is_last, is_kept, standing_of, set_at, after_leaving, remove_at}
 use Rattle.view_members.proofs.StandingLaws.{leaving_now, leaving_last, leaving_kept}
 use Rattle.view_members.proofs.RankLists.{has, has_none, has-put, has_below, ranks_rise, find-ranks}
 use Rattle.view_members.proofs.PairLists.{row-filter}
-use Rattle.view_members.proofs.MemberLaws.{filtered, found_some, leave_ranks, leave_same}
+use Rattle.view_members.proofs.MemberLaws.{filtered, found_some, remove_ranks, remove_same}
 
 -- the first rank that isn't below
 pub first_none : (t : Standing → Bool) (r : ℕ) (es : List (ℕ × Standing)) → first_from r es ≡ None → (k : ℕ) → r ≤ k → has t es k ≡ false
@@ -42,14 +42,14 @@ others who k false h = refl
 others who k true h = grind (arith, nat_tests)
 
 -- a pair of the row leaves: the rest is as before
-pub row_step : (who r : ℕ) (es : List (ℕ × Standing)) → RisesFrom entry_rank 0 es → 65536 * who ≤ r → r < 65536 * who + 65536 → without_row who (members_of (leave_at r es)) ≡ without_row who (members_of es)
+pub row_step : (who r : ℕ) (es : List (ℕ × Standing)) → RisesFrom entry_rank 0 es → 65536 * who ≤ r → r < 65536 * who + 65536 → without_row who (members_of (remove_at r es)) ≡ without_row who (members_of es)
 row_step who r es rises l m =
     let test : ℕ → Bool = λ n. not (n / 65536 == who) in
     let inside : test r ≡ false = in_row who r l m in
-    let ranks : filter test (ranks_of is_now (leave_at r es)) ≡ filter test (ranks_of is_now es) = ap (filter test) (leave_ranks es r rises) ∙ filter_without test r (ranks_of is_now es) inside in
-    let now = row-filter who (ranks_of is_now (leave_at r es)) ∙ (ap (map pair_of_rank) ranks ∙ sym (row-filter who (ranks_of is_now es))) in
-    let last = ap (map pair_of_rank) (leave_same is_last leaving_last es r rises) in
-    let kept = ap (map pair_of_rank) (leave_same is_kept leaving_kept es r rises) in
+    let ranks : filter test (ranks_of is_now (remove_at r es)) ≡ filter test (ranks_of is_now es) = ap (filter test) (remove_ranks es r rises) ∙ filter_without test r (ranks_of is_now es) inside in
+    let now = row-filter who (ranks_of is_now (remove_at r es)) ∙ (ap (map pair_of_rank) ranks ∙ sym (row-filter who (ranks_of is_now es))) in
+    let last = ap (map pair_of_rank) (remove_same is_last leaving_last es r rises) in
+    let kept = ap (map pair_of_rank) (remove_same is_kept leaving_kept es r rises) in
     cc
 
 -- once no pair of the row is a member
@@ -74,10 +74,10 @@ left_case es r k (inl a) (Some s) i = grind (arith, nat_tests, has-put is_now r 
 left_case es r k (inr b) (Some s) i = grind (arith, nat_tests, has-put is_now r (after_leaving s) es k, leaving_now s)
 
 -- after a pair left
-pub leave_has : (es : List (ℕ × Standing)) (r : ℕ) (k : ℕ) → (has is_now es k ≡ false) ⊎ (k ≡ r) → has is_now (leave_at r es) k ≡ false
-leave_has es r k h = left_case es r k h (standing_of r es) refl
+pub remove_has : (es : List (ℕ × Standing)) (r : ℕ) (k : ℕ) → (has is_now es k ≡ false) ⊎ (k ≡ r) → has is_now (remove_at r es) k ≡ false
+remove_has es r k h = left_case es r k h (standing_of r es) refl
 
 -- the ranks up to one that left
-pub left_behind : (low from r : ℕ) (es : List (ℕ × Standing)) → ((k : ℕ) → low ≤ k → k < from → has is_now es k ≡ false) → ((k : ℕ) → from ≤ k → k < r → has is_now es k ≡ false) → (k : ℕ) → low ≤ k → k < r + 1 → has is_now (leave_at r es) k ≡ false
+pub left_behind : (low from r : ℕ) (es : List (ℕ × Standing)) → ((k : ℕ) → low ≤ k → k < from → has is_now es k ≡ false) → ((k : ℕ) → from ≤ k → k < r → has is_now es k ≡ false) → (k : ℕ) → low ≤ k → k < r + 1 → has is_now (remove_at r es) k ≡ false
 left_behind low from r es behind ahead k l m =
-    elim (cases_lt k r) [ inl a ↦ leave_has es r k (inl (gone_all low from r es behind ahead k l a)) | inr b ↦ leave_has es r k (inr (omega arith)) ]
+    elim (cases_lt k r) [ inl a ↦ remove_has es r k (inl (gone_all low from r es behind ahead k l a)) | inr b ↦ remove_has es r k (inr (omega arith)) ]

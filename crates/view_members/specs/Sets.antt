@@ -1,7 +1,9 @@
 -- What calls make of the members of a view.
-use Rattle.std.specs.Prelude.{◌≡◌, ℕ, true, false, not, ◌==◌, List, filter, Result, Ok, Err}
+use Rattle.std.specs.Prelude.{◌≡◌, ℕ, ℤ, true, false, not, ◌==◌, List, filter, Result, Ok, Err}
 use Rattle.schema_model.specs.declared.place.Pair.{Pair}
-use Rattle.state_model.specs.Members.{Members, with_pairs, without_pairs, is_view_full}
+use Rattle.lists.specs.Rising.{RisesFrom}
+use Rattle.state_model.specs.Members.{Members, pair_rank, with_pairs, without_pairs, is_view_full}
+use Rattle.state_model.specs.Shown.{is_member}
 use Rattle.view_members.specs.declared.fault.MemberFault.{MemberFault}
 use Rattle.view_members.specs.declared.fault.MemberFault.TheVariants.{ViewFull, Memory}
 
@@ -23,3 +25,10 @@ abbrev pub Adds : List Pair → Members → Members → Result (Unit {0}) Member
 Adds pairs old new (Ok done) = (is_view_full (with_all pairs old) ≡ false) × (new ≡ with_all pairs old)
 Adds pairs old new (Err ViewFull) = (is_view_full (with_all pairs old) ≡ true) × (new ≡ old)
 Adds pairs old new (Err Memory) = new ≡ old
+
+-- the pairs now, at the last tick and kept rise, by row and then by tag, and those now are among those kept
+pub record AreKept (m : Members) : Type 0 where
+  pub now : RisesFrom pair_rank 0 m.now
+  pub last : RisesFrom pair_rank 0 m.last
+  pub kept : RisesFrom pair_rank 0 m.kept
+  pub within : (who : ℕ) (tag : ℤ) → is_member m.now who tag ≡ true → is_member m.kept who tag ≡ true

@@ -128,17 +128,17 @@ set_at r None es = es
 set_at r (Some s) es = put entry_rank (r, s) es
 
 -- after the pair of a rank came
-abbrev pub come_at : ℕ → List (ℕ × Standing) → List (ℕ × Standing)
-come_at r es = set_at r (option_map after_coming (standing_of r es)) es
+abbrev pub add_at : ℕ → List (ℕ × Standing) → List (ℕ × Standing)
+add_at r es = set_at r (option_map after_coming (standing_of r es)) es
 
 -- after it left
-abbrev pub leave_at : ℕ → List (ℕ × Standing) → List (ℕ × Standing)
-leave_at r es = set_at r (option_map after_leaving (standing_of r es)) es
+abbrev pub remove_at : ℕ → List (ℕ × Standing) → List (ℕ × Standing)
+remove_at r es = set_at r (option_map after_leaving (standing_of r es)) es
 
 -- after pairs came
-abbrev pub come_all : List Pair → List (ℕ × Standing) → List (ℕ × Standing)
-come_all [] es = es
-come_all (p ∷ ps) es = come_all ps (come_at (pair_rank p) es)
+abbrev pub add_all : List Pair → List (ℕ × Standing) → List (ℕ × Standing)
+add_all [] es = es
+add_all (p ∷ ps) es = add_all ps (add_at (pair_rank p) es)
 
 -- with room for the pair of a rank
 abbrev pub with_spare : ℕ → List (ℕ × Standing) → List (ℕ × Standing)

@@ -1,12 +1,12 @@
 ghost use Rattle.std.specs.Prelude.{◌≡◌, ◌+◌, [], ◌∷◌, IfOk, slice_get};
 ghost use Rattle.state_model.specs.Members.{no_members, changed_pairs, ticked};
 ghost use Rattle.state_model.specs.Shown.{is_member};
-ghost use Rattle.view_members.specs.Sets.{Adds, without_all, without_row};
+ghost use Rattle.view_members.specs.Sets.{Adds, AreKept, without_all, without_row};
 
 use crate::fault::MemberFault;
 use crate::rank::rank_of;
 use crate::sets::Sets;
-use crate::turns::{come_each, forget_passed, leave, leave_row, settle_changed, take_room};
+use crate::turns::{add_each, forget_passed, remove, remove_row, settle_changed, take_room};
 use lists::Memory;
 use schema_model::{Pair, RefNum};
 use std::alloc::Global;
@@ -50,7 +50,7 @@ impl Members {
         ensures { Adds pairs.now self.old self.new result }
     {
         take_room(&mut self.sets, pairs)?;
-        come_each(&mut self.sets, pairs);
+        add_each(&mut self.sets, pairs);
         Ok(())
     }
 
@@ -59,7 +59,7 @@ impl Members {
     pub fn remove(&mut self, pair: Pair)
         ensures { self.new ≡ without_all (pair ∷ []) self.old }
     {
-        leave(&mut self.sets, rank_of(pair));
+        remove(&mut self.sets, rank_of(pair));
     }
 
     /// Takes pairs out, as far as they are members.
@@ -75,7 +75,15 @@ impl Members {
     pub fn forget_instance(&mut self, who: RefNum)
         ensures { self.new ≡ without_row who self.old }
     {
-        leave_row(&mut self.sets, who);
+        remove_row(&mut self.sets, who);
+    }
+
+    /// The pairs now, at the last tick and kept rise by row and then by tag, and those now are among those kept. It does
+    /// nothing else than to say so.
+    pub fn know(&self)
+        ensures { AreKept self.now }
+    {
+        self.sets.keeps();
     }
 
     /// The pairs now, rising by row and then by tag.

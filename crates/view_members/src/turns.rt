@@ -1,7 +1,7 @@
 //! Pairs that come and leave, and what a tick's end makes of them.
 ghost use Rattle.std.specs.Prelude.{◌≡◌, ◌<◌, ◌≤◌, ◌^◌, [], length};
 ghost use Rattle.view_members.specs.Sets.{without_row};
-ghost use Rattle.view_members.specs.Standings.{is_now, is_changed, is_passed, is_spare, ranks_of, members_of, come_at, leave_at, come_all, without_spare, without_spares, AllFit, IsKept, MakesRoom, TakesRoom, settled_at};
+ghost use Rattle.view_members.specs.Standings.{is_now, is_changed, is_passed, is_spare, ranks_of, members_of, add_at, remove_at, add_all, without_spare, without_spares, AllFit, IsKept, MakesRoom, TakesRoom, settled_at};
 
 use crate::fault::MemberFault;
 use crate::rank::{TAGS, rank_of};
@@ -13,8 +13,8 @@ use schema_model::{Pair, RefNum};
 const LIMIT: usize = 65536;
 
 // The pair of this rank comes, if it has an entry.
-fn come(sets: &mut Sets, rank: u64)
-    ensures { sets.new ≡ come_at rank sets.old }
+fn add(sets: &mut Sets, rank: u64)
+    ensures { sets.new ≡ add_at rank sets.old }
 {
     if let Some(standing) = sets.get(rank) {
         sets.set(rank, standing.coming());
@@ -22,17 +22,17 @@ fn come(sets: &mut Sets, rank: u64)
 }
 
 /// Those of these pairs come that have an entry.
-pub fn come_each(sets: &mut Sets, pairs: &[Pair])
-    ensures { sets.new ≡ come_all pairs.now sets.old }
+pub fn add_each(sets: &mut Sets, pairs: &[Pair])
+    ensures { sets.new ≡ add_all pairs.now sets.old }
 {
     for pair in pairs {
-        come(sets, rank_of(*pair));
+        add(sets, rank_of(*pair));
     }
 }
 
 /// The pair of this rank leaves, if it has an entry.
-pub fn leave(sets: &mut Sets, rank: u64)
-    ensures entries { sets.new ≡ leave_at rank sets.old }
+pub fn remove(sets: &mut Sets, rank: u64)
+    ensures entries { sets.new ≡ remove_at rank sets.old }
     ensures kept { IsKept sets.old }
 {
     if let Some(standing) = sets.get(rank) {
@@ -41,7 +41,7 @@ pub fn leave(sets: &mut Sets, rank: u64)
 }
 
 /// Every pair of a row leaves.
-pub fn leave_row(sets: &mut Sets, who: RefNum)
+pub fn remove_row(sets: &mut Sets, who: RefNum)
     ensures members { members_of sets.new ≡ without_row who (members_of sets.old) }
     ensures spare { ranks_of is_spare sets.new ≡ ranks_of is_spare sets.old }
     ensures len { length sets.new ≡ length sets.old }
@@ -52,7 +52,7 @@ pub fn leave_row(sets: &mut Sets, who: RefNum)
         if rank >= end {
             return;
         }
-        leave(sets, rank);
+        remove(sets, rank);
         from = rank + 1;
     }
 }

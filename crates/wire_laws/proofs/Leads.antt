@@ -80,8 +80,8 @@ names_one schema old new (x ∷ es) e a n m f is h =
     names_here : (x : RowEntry) → x ≡ e → is_among m (named_by_blocks (common_block schema new x (row_at old x.who))) ≡ true
     names_here x same =
         let here : is_among m (named_by_blocks (common_block schema new e (Some a))) ≡ true = ap (is_among m) (named_block e.who (row_edits schema new a e.row)) ∙ h in
-        let told : is_among m (named_by_blocks (common_block schema new e (row_at old e.who))) ≡ true = ap (λ o. is_among m (named_by_blocks (common_block schema new e o))) is ∙ here in
-        subst (λ y. is_among m (named_by_blocks (common_block schema new y (row_at old y.who))) ≡ true) (sym same) told
+        let encoded : is_among m (named_by_blocks (common_block schema new e (row_at old e.who))) ≡ true = ap (λ o. is_among m (named_by_blocks (common_block schema new e o))) is ∙ here in
+        subst (λ y. is_among m (named_by_blocks (common_block schema new y (row_at old y.who))) ≡ true) (sym same) encoded
 
 -- ---- the two phases
 

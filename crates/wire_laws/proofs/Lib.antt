@@ -28,7 +28,7 @@ pub mod KindLaws
 pub mod KeptRows
 pub mod Keeping
 pub mod StateFrames
-pub mod ToldValues
-pub mod ToldEdits
-pub mod ToldKnown
-pub mod ToldBlocks
+pub mod EncodedValues
+pub mod EncodedEdits
+pub mod EncodedKnown
+pub mod EncodedBlocks

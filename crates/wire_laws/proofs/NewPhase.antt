@@ -232,8 +232,8 @@ tracks_more schema old new worked done named rest n b r t i is_new = record {
     more : List ℕ
     more = named_in (whole_edits schema new b)
 
-    told : (m : ℕ) → ((is_among m (n ∷ done)) || (is_among m rest || is_among m more)) ≡ true → (is_among m (n ∷ done) || is_among m (rest ++ more)) ≡ true
-    told m h = ap (λ x. is_among m (n ∷ done) || x) (among_both rest more m) ∙ h
+    encoded : (m : ℕ) → ((is_among m (n ∷ done)) || (is_among m rest || is_among m more)) ≡ true → (is_among m (n ∷ done) || is_among m (rest ++ more)) ≡ true
+    encoded m h = ap (λ x. is_among m (n ∷ done) || x) (among_both rest more m) ∙ h
 
     holds_old : (m : ℕ) → (is_among m done || is_among m named) ≡ true → ((is_among m (n ∷ done)) || (is_among m rest || is_among m more)) ≡ true
     holds_old m h =
@@ -246,8 +246,8 @@ tracks_more schema old new worked done named rest n b r t i is_new = record {
           | true ↦ λ c k.
               let same : x ≡ b = same_Some x b (sym is ∙ (ap (row_at new) (sym (eqb-true n a c)) ∙ is_new)) in
               let held_b : is_among m (held_in b) ≡ true = ap (λ y. is_among m (held_in y)) (sym same) ∙ held in
-              told m (or_right (is_among m (n ∷ done)) (is_among m rest || is_among m more) (or_right (is_among m rest) (is_among m more) (held_whole schema new b m (r.new_formed n b is_new) held_b)))
-          | false ↦ λ c k. told m (holds_old m (t.holds a m x k is held))
+              encoded m (or_right (is_among m (n ∷ done)) (is_among m rest || is_among m more) (or_right (is_among m rest) (is_among m more) (held_whole schema new b m (r.new_formed n b is_new) held_b)))
+          | false ↦ λ c k. encoded m (holds_old m (t.holds a m x k is held))
         ] in go (n == a) refl w
 
 -- the rows with one new row more, and what is named from then on

@@ -41,5 +41,5 @@ abbrev pub PatchLeads : Type 0
 PatchLeads = (schema : Schema) (old new : List RowEntry) → Patchable schema old new → freed (apply_edits (patch_edits schema old new) old) ≡ new
 
 -- and so it does after it was told: its operations carry scalars and numbers of rows alone
-abbrev pub ToldPatchLeads : Type 0
-ToldPatchLeads = (schema : Schema) (old new : List RowEntry) → Patchable schema old new → freed (applied schema old (patch schema old new)) ≡ new
+abbrev pub EncodedPatchLeads : Type 0
+EncodedPatchLeads = (schema : Schema) (old new : List RowEntry) → Patchable schema old new → freed (applied schema old (patch schema old new)) ≡ new

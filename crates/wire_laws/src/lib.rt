@@ -1,7 +1,7 @@
 //! Laws of patches: what they make of the rows that they are done to.
 #![tactic(auto)]
 
-ghost use Rattle.wire_laws.specs.PatchLaw.{PatchLeads, ToldPatchLeads};
+ghost use Rattle.wire_laws.specs.PatchLaw.{PatchLeads, EncodedPatchLeads};
 ghost use Rattle.wire_laws.specs.FrameLaw.{FrameLeads, FullLeads, JoinedLead, TicksLead};
 
 /// The patch from old rows to new rows, done to the old rows and freed of what nothing holds, gives
@@ -12,8 +12,8 @@ pub fn patch_leads()
 
 /// The same of the patch as it is told, when what each link leads to is found again from the rows
 /// known so far.
-pub fn told_patch_leads()
-    ensures { ToldPatchLeads }
+pub fn encoded_patch_leads()
+    ensures { EncodedPatchLeads }
 {}
 
 /// A state frame, its shared part done first and then its view part, leads a client from its old view

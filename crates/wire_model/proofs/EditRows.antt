@@ -10,7 +10,7 @@ use Rattle.wire_model.specs.declared.op.OpValue.TheVariants as carried
 use Rattle.wire_model.specs.declared.op.Op.{Op}
 use Rattle.wire_model.specs.declared.op.Op.TheVariants as op
 use Rattle.wire_model.specs.declared.op.Block.{Block}
-use Rattle.wire_model.specs.Edits.{AWhole, AText, ATruth, Carried, Plain, Linked, Edit, Add, Replace, DeleteAdd, Delete, Clear, AddByRef, DeleteByRef, EditBlock, scalar_value, carried_value, told_link, told_value, told, told_block, told_blocks}
+use Rattle.wire_model.specs.Edits.{AWhole, AText, ATruth, Carried, Plain, Linked, Edit, Add, Replace, DeleteAdd, Delete, Clear, AddByRef, DeleteByRef, EditBlock, scalar_value, carried_value, encoded_link, encoded_value, encoded, encoded_block, encoded_blocks}
 use Rattle.wire_model.specs.OpBytes.{count_bytes, mark_bytes, value_bytes, head_bytes, link_number, op_bytes, switch_bytes, whole_block, first_block, block_bytes}
 
 -- ---- as they are told
@@ -33,20 +33,20 @@ what_is_carried_is_a_value : map carried_value (seven ∷ instance ∷ collectio
 what_is_carried_is_a_value = refl
 
 a_mark_is_told_where_the_operation_adds :
-    told_link true 4 (Some 2) ∷ told_link false 4 (Some 2) ∷ told_link true 6 None ∷ told_link false 6 None ∷ [] ≡ carried.Struct 4 (Some 2)
+    encoded_link true 4 (Some 2) ∷ encoded_link false 4 (Some 2) ∷ encoded_link true 6 None ∷ encoded_link false 6 None ∷ [] ≡ carried.Struct 4 (Some 2)
     ∷ carried.Struct 4 None ∷ carried.Coll 6 ∷ carried.Coll 6 ∷ []
 a_mark_is_told_where_the_operation_adds = refl
 
-a_value_is_told_by_its_form : map (told_value true) (seven ∷ instance ∷ collection ∷ Linked 1 (row.Map (ex.home 0 0) [])
+a_value_is_told_by_its_form : map (encoded_value true) (seven ∷ instance ∷ collection ∷ Linked 1 (row.Map (ex.home 0 0) [])
     ∷ Linked 3 (row.Set (ex.home 0 2) []) ∷ [])
     ≡ carried.Scalar kind.Number (value.Whole (pos 7)) ∷ carried.Struct 4 (Some 2) ∷ carried.Coll 6 ∷ carried.Coll 1 ∷ carried.Coll 3 ∷ []
 a_value_is_told_by_its_form = refl
 
-a_value_that_is_not_added_has_no_mark : map (told_value false) (seven ∷ instance ∷ [])
+a_value_that_is_not_added_has_no_mark : map (encoded_value false) (seven ∷ instance ∷ [])
     ≡ carried.Scalar kind.Number (value.Whole (pos 7)) ∷ carried.Struct 4 None ∷ []
 a_value_that_is_not_added_has_no_mark = refl
 
-each_operation_is_told : map told
+each_operation_is_told : map encoded
     (Add (Field 3) instance ∷ Replace (Item 2) instance ∷ DeleteAdd (Named 2 (codes "a")) instance ∷ Delete (Item 5) ∷ Clear ∷ AddByRef instance
     ∷ DeleteByRef 4 ∷ [])
     ≡ op.Add (Field 3) (carried.Struct 4 (Some 2)) ∷ op.Replace (Item 2) (carried.Struct 4 None)
@@ -60,11 +60,11 @@ edits n es = record { holder = n; edits = es }
 abbrev block : ℕ → List Op → Block
 block n os = record { holder = n; ops = os }
 
-a_block_is_told_with_its_holder : told_block (edits 6 (Clear ∷ Add (Item 0) seven ∷ []))
+a_block_is_told_with_its_holder : encoded_block (edits 6 (Clear ∷ Add (Item 0) seven ∷ []))
     ≡ block 6 (op.Clear ∷ op.Add (Item 0) (carried.Scalar kind.Number (value.Whole (pos 7))) ∷ [])
 a_block_is_told_with_its_holder = refl
 
-blocks_are_told_in_order : told_blocks (edits 6 (Clear ∷ []) ∷ edits 1 (Delete (Item 2) ∷ []) ∷ [])
+blocks_are_told_in_order : encoded_blocks (edits 6 (Clear ∷ []) ∷ edits 1 (Delete (Item 2) ∷ []) ∷ [])
     ≡ block 6 (op.Clear ∷ []) ∷ block 1 (op.Delete (Item 2) ∷ []) ∷ []
 blocks_are_told_in_order = refl
 

@@ -8,4 +8,4 @@ pub mod AppliedRows
 pub mod EditRows
 pub mod PatchRows
 pub mod BlockRows
-pub mod ToldRows
+pub mod EncodedRows

@@ -50,30 +50,30 @@ carried_value (Plain k s) = scalar_value s
 carried_value (Linked n empty) = value.Link n
 
 -- a link as it is told, with the type mark where the operation has the ADD bit
-abbrev pub told_link : Bool → ℕ → Option ℕ → OpValue
-told_link adds n None = carried.Coll n
-told_link true n (Some class) = carried.Struct n (Some class)
-told_link false n (Some class) = carried.Struct n None
+abbrev pub encoded_link : Bool → ℕ → Option ℕ → OpValue
+encoded_link adds n None = carried.Coll n
+encoded_link true n (Some class) = carried.Struct n (Some class)
+encoded_link false n (Some class) = carried.Struct n None
 
 -- a value as it is told
-abbrev pub told_value : Bool → Carried → OpValue
-told_value adds (Plain k s) = carried.Scalar k (scalar_value s)
-told_value adds (Linked n empty) = told_link adds n (row_class empty)
+abbrev pub encoded_value : Bool → Carried → OpValue
+encoded_value adds (Plain k s) = carried.Scalar k (scalar_value s)
+encoded_value adds (Linked n empty) = encoded_link adds n (row_class empty)
 
 -- an operation as it is told
-abbrev pub told : Edit → Op
-told (Add k v) = op.Add k (told_value true v)
-told (Replace k v) = op.Replace k (told_value false v)
-told (DeleteAdd k v) = op.DeleteAdd k (told_value true v)
-told (Delete k) = op.Delete k
-told Clear = op.Clear
-told (AddByRef v) = op.AddByRef (told_value true v)
-told (DeleteByRef n) = op.DeleteByRef n
+abbrev pub encoded : Edit → Op
+encoded (Add k v) = op.Add k (encoded_value true v)
+encoded (Replace k v) = op.Replace k (encoded_value false v)
+encoded (DeleteAdd k v) = op.DeleteAdd k (encoded_value true v)
+encoded (Delete k) = op.Delete k
+encoded Clear = op.Clear
+encoded (AddByRef v) = op.AddByRef (encoded_value true v)
+encoded (DeleteByRef n) = op.DeleteByRef n
 
 -- a block as it is told
-abbrev pub told_block : EditBlock → Block
-told_block b = record { holder = b.holder; ops = map told b.edits }
+abbrev pub encoded_block : EditBlock → Block
+encoded_block b = record { holder = b.holder; ops = map encoded b.edits }
 
 -- blocks as they are told
-abbrev pub told_blocks : List EditBlock → List Block
-told_blocks bs = map told_block bs
+abbrev pub encoded_blocks : List EditBlock → List Block
+encoded_blocks bs = map encoded_block bs

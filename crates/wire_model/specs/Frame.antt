@@ -4,14 +4,14 @@ use Rattle.schema_model.specs.Classes.{Schema}
 use Rattle.state_model.specs.declared.row.RowEntry.{RowEntry}
 use Rattle.state_model.specs.Rows.{root_alone}
 use Rattle.wire_model.specs.declared.op.Block.{Block}
-use Rattle.wire_model.specs.Edits.{EditBlock, told_blocks}
+use Rattle.wire_model.specs.Edits.{EditBlock, encoded_blocks}
 use Rattle.wire_model.specs.OpBytes.{block_bytes}
 use Rattle.wire_model.specs.Effect.{apply_edits}
 use Rattle.wire_model.specs.Patch.{patch_edits}
 
 -- the patch as it is told: the blocks that are written
 abbrev pub patch : Schema → List RowEntry → List RowEntry → List Block
-patch schema old new = told_blocks (patch_edits schema old new)
+patch schema old new = encoded_blocks (patch_edits schema old new)
 
 -- the shared part: the patch between the shared rows of two ticks
 abbrev pub shared_part : Schema → List RowEntry → List RowEntry → List EditBlock
@@ -25,8 +25,8 @@ view_part schema shared0 permitted0 shared1 permitted1 =
 -- the state bytes of a tick: the shared part, whose first block of the root has no switch, and the view part
 abbrev pub state_frame : Schema → List RowEntry → List RowEntry → List RowEntry → List RowEntry → List ℕ
 state_frame schema shared0 permitted0 shared1 permitted1 =
-    block_bytes (told_blocks (shared_part schema shared0 shared1)) true
-    ++ block_bytes (told_blocks (view_part schema shared0 permitted0 shared1 permitted1)) false
+    block_bytes (encoded_blocks (shared_part schema shared0 shared1)) true
+    ++ block_bytes (encoded_blocks (view_part schema shared0 permitted0 shared1 permitted1)) false
 
 -- there are no blocks
 abbrev pub is_blank : List EditBlock → Bool

@@ -1,6 +1,6 @@
 -- The patch from old rows to new rows: which operations, and in which order. Ours.
-use Rattle.std.specs.Prelude.{ℕ, zero, suc, Bool, true, false, not, ◌&&◌, List, [], ◌∷◌, ◌++◌, length, map, filter, Option, Some, None, if◌then◌else◌, slice_get, max}
-use Rattle.std.specs.List.{list_any, flat_map, range_with_len}
+use Rattle.std.specs.Prelude.{ℕ, zero, suc, Bool, true, false, not, ◌&&◌, List, [], ◌∷◌, ◌++◌, length, map, filter, Option, Some, None, if◌then◌else◌, slice_get, max, ◌||◌, nat_le, ◌^◌}
+use Rattle.std.specs.List.{list_any, flat_map, range_with_len, list_all}
 use Rattle.std.specs.Option.{option_map, option_map_or}
 use Rattle.lists.specs.Rising as rising
 use Rattle.schema_model.specs.Classes.{Schema}
@@ -222,3 +222,16 @@ abbrev pub patch_edits : Schema → List RowEntry → List RowEntry → List Edi
 patch_edits schema old new =
     common_blocks schema old new
     ++ new_blocks (length new) schema new (numbers_of old) (named_by_blocks (common_blocks schema old new))
+
+-- ---- what can be written
+
+-- an array that goes by position has no more values than there are positions with bytes
+abbrev pub is_short : Schema → Row → Bool
+is_short schema (row.Struct class fields) = true
+is_short schema (row.Map home items) = true
+is_short schema (row.Array home values) = is_filtered schema home || nat_le (length values) (2 ^ 31)
+is_short schema (row.Set home items) = true
+
+-- each array of rows is so
+abbrev pub are_short : Schema → List RowEntry → Bool
+are_short schema rows = list_all (λ (e : RowEntry). is_short schema e.row) rows

@@ -2,6 +2,7 @@
 //! new ones, and the state frame.
 #![tactic(auto)]
 
+pub mod codes;
 pub mod fault;
 pub mod op;
 

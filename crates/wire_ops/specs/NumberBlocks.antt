@@ -1,6 +1,7 @@
 -- Blocks that only set and take away fields with numbers.
 use Rattle.std.specs.Prelude.{◌^◌, Bool, false, ◌&&◌, List, nat_lt}
 use Rattle.std.specs.List.{list_all}
+use Rattle.schema_model.specs.Classes.{most_fields}
 use Rattle.schema_model.specs.Fits.{in_signed}
 use Rattle.schema_model.specs.declared.scalar.ScalarKind.TheVariants as kind
 use Rattle.schema_model.specs.declared.value.Value.TheVariants as value
@@ -12,9 +13,9 @@ use Rattle.wire_model.specs.declared.op.Op.{Op}
 use Rattle.wire_model.specs.declared.op.Op.TheVariants as op
 use Rattle.wire_model.specs.declared.op.Block.{Block}
 
--- a field below 63
+-- a field below the most that a class has
 abbrev pub is_field_key : OpKey → Bool
-is_field_key (key.Field i) = nat_lt i 63
+is_field_key (key.Field i) = nat_lt i most_fields
 is_field_key k = false
 
 -- a `number`

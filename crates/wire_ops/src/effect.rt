@@ -41,10 +41,19 @@ impl Holder {
         }
     }
 
-    /// Does an operation. Takes logarithmic time, and the length of the text that it carries.
-    /// After an `Err` the holder is any.
+    /// The holder after an operation. Takes logarithmic time, and the length of the text that it
+    /// carries.
+    pub fn apply(self, alloc: Global, op: &Op) -> Result<Holder, Memory>
+        ensures { IfOk result (λ h. body_of h ≡ effect (plain_edit op.now) (body_of self)) }
+    {
+        let mut holder = self;
+        holder.edit(alloc, op)?;
+        Ok(holder)
+    }
+
+    // Does an operation. After an `Err` the holder is any.
     #[tactic(auto, using(crate::proofs::EffectLaws::effect_fields, crate::proofs::EffectLaws::effect_items, crate::proofs::EffectLaws::effect_slots, crate::proofs::EffectLaws::effect_elements))]
-    pub fn apply(&mut self, alloc: Global, op: &Op) -> Result<(), Memory>
+    fn edit(&mut self, alloc: Global, op: &Op) -> Result<(), Memory>
         ensures { OnOk result (body_of self.new ≡ effect (plain_edit op.now) (body_of self.old)) }
     {
         match self {
@@ -93,9 +102,9 @@ fn put_position(op: &Op) -> Option<u32>
     ensures { result ≡ put_position (plain_edit op.now) }
 {
     match op {
-        Op::Add(OpKey::Item(at), _) => Some(*at),
-        Op::Replace(OpKey::Item(at), _) => Some(*at),
-        Op::DeleteAdd(OpKey::Item(at), _) => Some(*at),
+        Op::Add(OpKey::Item(at), _)
+        | Op::Replace(OpKey::Item(at), _)
+        | Op::DeleteAdd(OpKey::Item(at), _) => Some(*at),
         _ => None,
     }
 }
@@ -104,13 +113,9 @@ fn apply_to_fields(alloc: Global, fields: &mut FieldValues, op: &Op) -> Result<(
     ensures { OnOk result (fields.new ≡ edited_fields (plain_edit op.now) fields.old) }
 {
     match op {
-        Op::Add(OpKey::Field(field), value) => {
-            put_field(fields, *field, placed_value(alloc, value)?)
-        }
-        Op::Replace(OpKey::Field(field), value) => {
-            put_field(fields, *field, placed_value(alloc, value)?)
-        }
-        Op::DeleteAdd(OpKey::Field(field), value) => {
+        Op::Add(OpKey::Field(field), value)
+        | Op::Replace(OpKey::Field(field), value)
+        | Op::DeleteAdd(OpKey::Field(field), value) => {
             put_field(fields, *field, placed_value(alloc, value)?)
         }
         Op::Delete(OpKey::Field(field)) => {
@@ -132,10 +137,8 @@ fn apply_to_items(alloc: Global, items: &mut Items, op: &Op) -> Result<(), Memor
     ensures { OnOk result (items.new ≡ edited_items (plain_edit op.now) items.old) }
 {
     match op {
-        Op::Add(OpKey::Named(number, key), value) => {
-            items.put_named(alloc, *number, key, placed_value(alloc, value)?)
-        }
-        Op::DeleteAdd(OpKey::Named(number, key), value) => {
+        Op::Add(OpKey::Named(number, key), value)
+        | Op::DeleteAdd(OpKey::Named(number, key), value) => {
             items.put_named(alloc, *number, key, placed_value(alloc, value)?)
         }
         Op::Replace(OpKey::Item(number), value) => {
@@ -158,8 +161,9 @@ fn apply_to_slots(alloc: Global, slots: &mut Slots, op: &Op) -> Result<(), Memor
 {
     match op {
         Op::Add(OpKey::Item(at), value) => slots.add(*at, placed_value(alloc, value)?),
-        Op::Replace(OpKey::Item(at), value) => slots.put(*at, placed_value(alloc, value)?),
-        Op::DeleteAdd(OpKey::Item(at), value) => slots.put(*at, placed_value(alloc, value)?),
+        Op::Replace(OpKey::Item(at), value) | Op::DeleteAdd(OpKey::Item(at), value) => {
+            slots.put(*at, placed_value(alloc, value)?)
+        }
         Op::Delete(OpKey::Item(at)) => {
             slots.empty(*at);
             Ok(())
@@ -181,13 +185,9 @@ fn apply_to_elements(alloc: Global, items: &mut Elements, op: &Op) -> Result<(),
     ensures { OnOk result (items.new ≡ edited_elements (plain_edit op.now) items.old) }
 {
     match op {
-        Op::Add(OpKey::Item(number), value) => {
-            put_element(items, *number, placed_value(alloc, value)?)
-        }
-        Op::DeleteAdd(OpKey::Item(number), value) => {
-            put_element(items, *number, placed_value(alloc, value)?)
-        }
-        Op::Replace(OpKey::Item(number), value) => {
+        Op::Add(OpKey::Item(number), value)
+        | Op::DeleteAdd(OpKey::Item(number), value)
+        | Op::Replace(OpKey::Item(number), value) => {
             put_element(items, *number, placed_value(alloc, value)?)
         }
         Op::Delete(OpKey::Item(number)) => {

@@ -40,7 +40,7 @@ impl Model for Items {
 
 impl Items {
     /// Items, taken over. Takes their number times its logarithm.
-    pub fn open(alloc: Global, items: MapItems) -> Result<Items, Memory>
+    pub(crate) fn open(alloc: Global, items: MapItems) -> Result<Items, Memory>
         ensures { IfOk result (λ s. s ≡ items) }
     {
         let index = KeyIndex::of(alloc, &items)?;
@@ -51,14 +51,14 @@ impl Items {
     }
 
     /// The items as a list.
-    pub fn close(self, alloc: Global) -> Result<MapItems, Memory>
+    pub(crate) fn close(self, alloc: Global) -> Result<MapItems, Memory>
         ensures { IfOk result (λ items. items ≡ self) }
     {
         self.items.into_rising(alloc)
     }
 
     /// An item has this number.
-    pub fn has(&self, number: u32) -> bool
+    pub(crate) fn has(&self, number: u32) -> bool
         ensures { result ≡ list_any (λ (i : MapItem). i.number == number) self.now }
     {
         self.items.get(number).is_some()
@@ -66,7 +66,7 @@ impl Items {
 
     /// Puts an item under a number. Another number with its key is gone. Takes logarithmic time;
     /// it looks at all items where those that were taken over repeat a key, or after an `Err`.
-    pub fn put_named(
+    pub(crate) fn put_named(
         &mut self,
         alloc: Global,
         number: u32,
@@ -103,7 +103,7 @@ impl Items {
     }
 
     /// Puts a new value under a number that is there.
-    pub fn put_value(&mut self, number: u32, value: Value) -> Result<(), Memory>
+    pub(crate) fn put_value(&mut self, number: u32, value: Value) -> Result<(), Memory>
         ensures { OnOk result (self.new ≡ put_value number value self.old) }
     {
         let index = self.index.take();
@@ -119,14 +119,14 @@ impl Items {
     }
 
     /// Takes the item with this number out.
-    pub fn remove(&mut self, number: u32)
+    pub(crate) fn remove(&mut self, number: u32)
         ensures { self.new ≡ rising.remove (λ (i : MapItem). i.number) number self.old }
     {
         self.items.remove(number);
     }
 
     /// Takes all items out.
-    pub fn clear(&mut self, alloc: Global)
+    pub(crate) fn clear(&mut self, alloc: Global)
         ensures { self.new ≡ [] }
     {
         self.items.clear();

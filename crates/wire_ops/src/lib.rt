@@ -2,13 +2,13 @@
 #![tactic(auto)]
 
 mod carried;
-pub mod effect;
-pub mod holder;
-pub mod items;
+mod effect;
+mod holder;
+mod items;
 mod key_index;
-pub mod links;
-pub mod slots;
-pub mod write;
+mod links;
+mod slots;
+mod write;
 
 pub use holder::Holder;
 pub use op_reader::{Known, is_holder, read_op};

@@ -24,7 +24,7 @@ impl Model for LinkPlaces {
 
 impl LinkPlaces {
     /// No places. They take no memory.
-    pub fn new(alloc: Global) -> LinkPlaces
+    pub(crate) fn new(alloc: Global) -> LinkPlaces
         ensures { result ≡ [] }
     {
         LinkPlaces {
@@ -33,7 +33,7 @@ impl LinkPlaces {
     }
 
     /// The first place of a link to a row.
-    pub fn first(&self, who: u32) -> Option<u64>
+    pub(crate) fn first(&self, who: u32) -> Option<u64>
         ensures { IsFirstPlace self.now who result }
     {
         let (found, place) = self.pairs.range((who, 0)..).next()?;
@@ -42,7 +42,7 @@ impl LinkPlaces {
 
     /// A value stands at a place besides: its place is noted where it is a link. An `Err` changes
     /// nothing.
-    pub fn add(&mut self, value: &Value, place: u64) -> Result<(), Memory>
+    pub(crate) fn add(&mut self, value: &Value, place: u64) -> Result<(), Memory>
         ensures ok { OnOk result (NotesAlso (Some value.now) place self.old self.new) }
         ensures err { OnErr result (self.new ≡ self.old) }
     {
@@ -53,7 +53,7 @@ impl LinkPlaces {
     }
 
     /// A value stands at a place no more: its place is noted no more where it is a link.
-    pub fn remove(&mut self, value: &Value, place: u64)
+    pub(crate) fn remove(&mut self, value: &Value, place: u64)
         ensures { NotesNoMore (Some value.now) place self.old self.new }
     {
         if let Value::Link(who) = value {
@@ -62,7 +62,7 @@ impl LinkPlaces {
     }
 
     /// No link stands anywhere.
-    pub fn clear(&mut self)
+    pub(crate) fn clear(&mut self)
         ensures { self.new ≡ [] }
     {
         self.pairs.clear();

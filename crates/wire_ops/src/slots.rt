@@ -49,7 +49,7 @@ impl Slots {
     }
 
     /// The values of an array, taken over. Takes their number times its logarithm.
-    pub fn open(alloc: Global, values: Values) -> Result<Slots, Memory>
+    pub(crate) fn open(alloc: Global, values: Values) -> Result<Slots, Memory>
         ensures { IfOk result (λ s. s ≡ map Some values) }
     {
         let mut slots = Slots::new(alloc);
@@ -60,7 +60,7 @@ impl Slots {
     }
 
     /// The values of the slots that are no holes.
-    pub fn close(self, alloc: Global) -> Result<Values, Memory>
+    pub(crate) fn close(self, alloc: Global) -> Result<Values, Memory>
         ensures { IfOk result (λ values. values ≡ closed_slots self) }
     {
         let mut values = Seq::new(alloc);
@@ -73,14 +73,14 @@ impl Slots {
     }
 
     /// The number of slots, with the holes.
-    pub fn len(&self) -> usize
+    pub(crate) fn len(&self) -> usize
         ensures { result ≡ length self.now }
     {
         self.slots.len()
     }
 
     /// Adds a value at a position: at 0, where a value is present there, it goes in front.
-    pub fn add(&mut self, at: u32, value: Value) -> Result<(), Memory>
+    pub(crate) fn add(&mut self, at: u32, value: Value) -> Result<(), Memory>
         ensures { OnOk result (self.new ≡ add_slot at value self.old) }
     {
         if at == 0 && self.is_first_present() {
@@ -100,7 +100,7 @@ impl Slots {
     }
 
     /// Puts a value into a slot below the length, or at the end; further on nothing happens.
-    pub fn put(&mut self, at: u32, value: Value) -> Result<(), Memory>
+    pub(crate) fn put(&mut self, at: u32, value: Value) -> Result<(), Memory>
         ensures { OnOk result (self.new ≡ put_slot at value self.old) }
     {
         let at = at as usize;
@@ -114,7 +114,7 @@ impl Slots {
     }
 
     /// Makes a hole of a slot below the length.
-    pub fn empty(&mut self, at: u32)
+    pub(crate) fn empty(&mut self, at: u32)
         ensures { self.new ≡ empty_slot at self.old }
     {
         if (at as usize) < self.slots.len() {
@@ -123,7 +123,7 @@ impl Slots {
     }
 
     /// Puts a link at the end, where it isn't there.
-    pub fn push_link(&mut self, value: Value) -> Result<(), Memory>
+    pub(crate) fn push_link(&mut self, value: Value) -> Result<(), Memory>
         ensures { OnOk result (self.new ≡ push_link value self.old) }
     {
         let Value::Link(who) = &value else {
@@ -136,7 +136,7 @@ impl Slots {
     }
 
     /// Makes a hole of the first slot with a link.
-    pub fn drop_link(&mut self, who: RefNum)
+    pub(crate) fn drop_link(&mut self, who: RefNum)
         ensures { self.new ≡ drop_link who self.old }
     {
         if let Some(at) = self.position(who) {
@@ -153,7 +153,7 @@ impl Slots {
     }
 
     /// Takes all slots away.
-    pub fn clear(&mut self)
+    pub(crate) fn clear(&mut self)
         ensures { self.new ≡ [] }
     {
         self.slots.clear();

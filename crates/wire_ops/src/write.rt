@@ -12,6 +12,9 @@ ghost use Rattle.block_laws.specs.Writable.{are_writable, is_writable, is_writab
 
 use scalar_codec::{put_number, put_scalar, put_text};
 use schema_model::{Memory, TypeNum};
+use wire_model::codes::{
+    ADD, ADD_BY_REF, CLEAR, DELETE, DELETE_AND_ADD, DELETE_BY_REF, REPLACE, SWITCH, TYPE_MARK,
+};
 use wire_model::{Block, Blocks, Op, OpKey, OpValue};
 
 /// Appends the bytes of blocks. With `bare_root` a first block of holder 0 has no switch. An `Err` leaves
@@ -75,7 +78,7 @@ fn put_whole_block(out: &mut Vec<u8>, block: &Block) -> Result<(), Memory>
     ensures ok { OnOk result (out.new.items ≡ out.old.items ++ whole_block block.now) }
     ensures front { IsFrontOf out.old.items out.new.items }
 {
-    put_numbered(out, 255, block.holder.0)?;
+    put_numbered(out, SWITCH, block.holder.0)?;
     put_ops(out, block.ops.as_slice())
 }
 
@@ -96,16 +99,16 @@ fn put_op(out: &mut Vec<u8>, op: &Op) -> Result<(), Memory>
     ensures front { IsFrontOf out.old.items out.new.items }
 {
     match op {
-        Op::Add(key, value) => put_valued(out, 128, key, value),
-        Op::Replace(key, value) => put_valued(out, 0, key, value),
-        Op::DeleteAdd(key, value) => put_valued(out, 192, key, value),
-        Op::Delete(key) => put_head(out, 64, key),
+        Op::Add(key, value) => put_valued(out, ADD, key, value),
+        Op::Replace(key, value) => put_valued(out, REPLACE, key, value),
+        Op::DeleteAdd(key, value) => put_valued(out, DELETE_AND_ADD, key, value),
+        Op::Delete(key) => put_head(out, DELETE, key),
         Op::Clear => {
-            out.push(10)?;
+            out.push(CLEAR)?;
             Ok(())
         }
         Op::AddByRef(value) => put_added_instance(out, value),
-        Op::DeleteByRef(who) => put_numbered(out, 33, who.0),
+        Op::DeleteByRef(who) => put_numbered(out, DELETE_BY_REF, who.0),
     }
 }
 
@@ -130,7 +133,7 @@ fn put_added_instance(out: &mut Vec<u8>, value: &OpValue) -> Result<(), Memory>
     let OpValue::Struct(who, _) = value else {
         unreachable!()
     };
-    put_numbered(out, 129, who.0)?;
+    put_numbered(out, ADD_BY_REF, who.0)?;
     put_value(out, value)
 }
 
@@ -175,7 +178,7 @@ fn put_mark(out: &mut Vec<u8>, class: Option<TypeNum>) -> Result<(), Memory>
     ensures front { IsFrontOf out.old.items out.new.items }
 {
     match class {
-        Some(class) => put_numbered(out, 213, class.0),
+        Some(class) => put_numbered(out, TYPE_MARK, class.0),
         None => Ok(()),
     }
 }

@@ -1,9 +1,13 @@
 //! The kernels over state bytes, and over the rows that they lead to.
+ghost use Rattle.std.specs.Prelude.{IsTrue};
+ghost use Rattle.wire_model.specs.Patch.{are_short};
+ghost use Rattle.canon_patch.specs.Kinds.{kinds_agree};
+
 use crate::fault::WorkFault;
 use crate::frames::{deletes, full_state, patch as patch_frame};
 use crate::game::schema;
 use crate::sums::sum_of_rows;
-use canon_patch::{apply_blocks, patch};
+use canon_patch::{apply_blocks, are_short, kinds_agree, patch};
 use lists::Memory;
 use patch_decoder::{Decoder, OpFault};
 use plain_rows::Rows;
@@ -115,6 +119,9 @@ fn compare_rows(
     applied: bool,
 ) -> Result<u64, WorkFault> {
     let schema = schema(alloc)?;
+    if !are_short(&schema, old) || !are_short(&schema, new) || !kinds_agree(old, new) {
+        return Err(WorkFault::Refused);
+    }
     let mut sum: u64 = 0;
     for _ in 0..times {
         sum = sum.wrapping_add(compare_once(alloc, &schema, old, new, applied)?);
@@ -128,7 +135,11 @@ fn compare_once(
     old: &Rows,
     new: &Rows,
     applied: bool,
-) -> Result<u64, Memory> {
+) -> Result<u64, Memory>
+    requires old { IsTrue (are_short schema.now old.now) }
+    requires new { IsTrue (are_short schema.now new.now) }
+    requires kinds { IsTrue (kinds_agree old.now new.now) }
+{
     let blocks = patch(alloc, schema, old, new)?;
     if applied {
         let rows = apply_blocks(alloc, schema, old, &blocks)?;

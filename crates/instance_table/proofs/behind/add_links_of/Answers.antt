@@ -19,3 +19,11 @@ returns-in-None-clause-links g c =
 
 pub returns-in-None-clause-cost : goal.returns-in-None-clause-cost
 returns-in-None-clause-cost g c = omega (arith, places_found c.args.nodes.now c.args.who _ c.in-None.ensures)
+
+pub returns-in-Some-clause-most : goal.returns-in-Some-clause-most
+returns-in-Some-clause-most g c =
+    let found = places_found c.args.nodes.now c.args.who _ c.in-Some.ensures in
+    rw found c.add_links_through.ensures.most
+
+pub returns-in-None-clause-most : goal.returns-in-None-clause-most
+returns-in-None-clause-most g c = omega (arith, places_found c.args.nodes.now c.args.who _ c.in-None.ensures)

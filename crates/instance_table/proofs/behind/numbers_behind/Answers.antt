@@ -1,11 +1,12 @@
-use Rattle.std.proofs.Common.{◌≡◌, ◌∙◌, ℕ, Bool, true, false, not, List, [], Result, Ok, Err, OnOk, IfOk, refl, ap, subst, arith, rules}
+use Rattle.std.proofs.Common.{◌≡◌, ◌∙◌, ℕ, Bool, true, false, not, List, [], ◌++◌, Result, Ok, Err, OnOk, IfOk, refl, ap, subst, arith, rules}
 use Rattle.state_model.specs.Members.{rows_through}
-use Rattle.state_model.specs.Reached.{is_among}
+use Rattle.state_model.specs.Reached.{is_among, with_number}
 use Rattle.state_model.specs.Rows.{place_count, rows_of}
 use Rattle.plain_rows.proofs.Lists.{nothing_left}
+use Rattle.plain_rows.specs.Links.{held_at}
 use Rattle.plain_rows.proofs.Walks.{walk_start, walk_on, walk_again, walk_end, with_same, less_on, less_again}
 use Rattle.instance_table.specs.Nodes.{rows_in}
-use Rattle.instance_table.proofs.BehindLaws.{through_rise, places_more, places_none}
+use Rattle.instance_table.proofs.BehindLaws.{through_rise, places_more, places_none, places_walked}
 use Rattle.instance_table.proofs.StateLaws.{rows_rise}
 use Rattle.instance_table.proofs.behind.numbers_behind.Goals as goal
 
@@ -43,7 +44,7 @@ pub loop-who-preserved-in-Continue-branch-3 : goal.loop-who-preserved-in-Continu
 loop-who-preserved-in-Continue-branch-3 g c =
     let rows = rows_in c.args.nodes.now in
     let thru = rows_through c.args.schema.now c.args.tag rows in
-    let rise = rows_rise 0 c.args.nodes.now c.len.ensures.rises in
+    let rise = rows_rise 0 c.args.nodes.now c.know_rising.ensures in
     let through = through_rise c.args.schema.now c.args.tag 0 rows rise in
     let who = c.in-Some.who in
     let seen = c.loop-who.seen in
@@ -86,7 +87,7 @@ pub returns-clause-value : goal.returns-clause-value
 returns-clause-value g c =
     let rows = rows_in c.args.nodes.now in
     let thru = rows_through c.args.schema.now c.args.tag rows in
-    let rise = rows_rise 0 c.args.nodes.now c.len.ensures.rises in
+    let rise = rows_rise 0 c.args.nodes.now c.know_rising.ensures in
     let through = through_rise c.args.schema.now c.args.tag 0 rows rise in
     let none : c.loop-who.waiting.items ≡ [] = search (rules, nothing_left, c.in_default.ensures.items) in
     let walked = c.loop-who.invariant.walked in
@@ -97,9 +98,37 @@ pub returns-clause-cost : goal.returns-clause-cost
 returns-clause-cost g c =
     let rows = rows_in c.args.nodes.now in
     let thru = rows_through c.args.schema.now c.args.tag rows in
-    let rise = rows_rise 0 c.args.nodes.now c.len.ensures.rises in
+    let rise = rows_rise 0 c.args.nodes.now c.know_rising.ensures in
     let through = through_rise c.args.schema.now c.args.tag 0 rows rise in
     let none : c.loop-who.waiting.items ≡ [] = search (rules, nothing_left, c.in_default.ensures.items) in
     let walked = c.loop-who.invariant.walked in
     let end = walk_end thru c.args.from c.loop-who.seen c.loop-who.waiting.items through walked none in
     on_ok c.to_vec.result (omega (arith, c.loop-who.invariant.cost, ap (λ ns. place_count (rows_of ns rows)) end))
+
+pub returns-in_err-insert-clause-most : goal.returns-in_err-insert-clause-most
+returns-in_err-insert-clause-most g c =
+    let rows = rows_in c.args.nodes.now in
+    let thru = rows_through c.args.schema.now c.args.tag rows in
+    let some = places_walked thru rows c.args.from c.loop-who.seen c.loop-who.waiting.items c.loop-who.invariant.walked in
+    omega (arith, c.loop-who.invariant.cost, some)
+
+pub returns-in_err-add_links_of-clause-most : goal.returns-in_err-add_links_of-clause-most
+returns-in_err-add_links_of-clause-most g c =
+    let rows = rows_in c.args.nodes.now in
+    let thru = rows_through c.args.schema.now c.args.tag rows in
+    let rise = rows_rise 0 c.args.nodes.now c.know_rising.ensures in
+    let through = through_rise c.args.schema.now c.args.tag 0 rows rise in
+    let who = c.in-Some.who in
+    let seen = c.loop-who.seen in
+    let new = from_not c.in_ok-insert.field-0 (is_among who seen) c.in_ok-insert.ensures.added c.if-branch.true in
+    let more = places_more rows seen who rise new in
+    let on = walk_on thru c.args.from seen c.loop-who.waiting.items c.pop.new.self.items who through c.loop-who.invariant.walked c.in-Some.ensures.items in
+    let some = places_walked thru rows c.args.from (with_number seen who) (c.pop.new.self.items ++ held_at thru who) on in
+    omega (arith, c.loop-who.invariant.cost, c.in_err-add_links_of.ensures.most, more, some)
+
+pub returns-clause-most : goal.returns-clause-most
+returns-clause-most g c =
+    let rows = rows_in c.args.nodes.now in
+    let thru = rows_through c.args.schema.now c.args.tag rows in
+    let some = places_walked thru rows c.args.from c.loop-who.seen c.loop-who.waiting.items c.loop-who.invariant.walked in
+    omega (arith, c.loop-who.invariant.cost, some)

@@ -1,6 +1,5 @@
-use Rattle.std.proofs.Common.{◌≡◌, ℕ, ◌≤◌, not, true, List, Some, sym, ap, subst}
-use Rattle.state_model.specs.State.{last_number}
-use Rattle.state_model.specs.Commands.{has_key, gives_number}
+use Rattle.std.proofs.Common.{◌≡◌, true, Some, ap, subst}
+use Rattle.state_model.specs.Commands.{gives_number}
 use Rattle.state_model.specs.declared.command.Command.TheVariants as command
 use Rattle.instance_table.specs.declared.body.Body.{Body}
 use Rattle.instance_table.specs.Bodies.{HasNumber, given_of, row_of}
@@ -11,12 +10,11 @@ use Rattle.instance_table.proofs.edits.put_key.Goals.{in-Ok, in-Err-Memory}
 pub unreachable-requires : goal.unreachable-requires
 unreachable-requires c =
     let s = c.in-Map.items in
-    let here = subst (λ (b : Body). gives_number (command.PutKey 0 c.args.key.now c.args.value) (Some (row_of b)) ≡ true → HasNumber (given_of b)) c.in-Map.is c.requires in
-    let left = subst (λ (k : List ℕ). not (has_key s.items k) ≡ true → s.given ≤ last_number) (sym c.in_ok-key-in-Map.ensures) here in
-    put_goes s c.put.new.self c.in_ok-key-in-Map.key c.args.value c.in-Err-NumbersSpent.field-0 left c.in-Err-NumbersSpent.field-0-is c.in-Err-NumbersSpent.ensures
+    let left = subst (λ (b : Body). gives_number (command.PutKey 0 c.args.key.now c.args.value) (Some (row_of b)) ≡ true → HasNumber (given_of b)) c.in-Map.is c.requires.left in
+    put_goes s c.put_at.new.self c.args.key.now c.args.value c.in-Err-NumbersSpent.field-0 left c.in-Err-NumbersSpent.field-0-is c.in-Err-NumbersSpent.ensures
 
-pub returns-after-put-clause-given : goal.returns-after-put-clause-given
-returns-after-put-clause-given c = elim c.match-put.branch [
-  | in-Ok w ↦ rw (w.result-is, c.in-Map.is, ← c.in_ok-key-in-Map.ensures) (ap Some (put_given c.in-Map.items c.in_ok-key-in-Map.key c.args.value c.put.new.self _ w.in-Ok.ensures))
+pub returns-after-put_at-clause-given : goal.returns-after-put_at-clause-given
+returns-after-put_at-clause-given c = elim c.match-put_at.branch [
+  | in-Ok w ↦ rw (w.result-is, c.in-Map.is) (ap Some (put_given c.in-Map.items c.args.key.now c.args.value c.put_at.new.self _ w.in-Ok.ensures))
   | in-Err-Memory w ↦ rw w.result-is tt
 ]

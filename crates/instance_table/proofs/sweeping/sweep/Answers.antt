@@ -4,7 +4,7 @@ use Rattle.instance_table.proofs.sweeping.sweep.Goals as goal
 
 pub loop-who-init : goal.loop-who-init
 loop-who-init c = record {
-  swept = swept_start c.args.graph.now.nodes c.args.totals.now.places c.args.totals.now.text c.args.gone.now.numbers c.len.ensures.rises c.requires.exact c.requires.places c.requires.text c.requires.none;
+  swept = swept_start c.args.graph.now.nodes c.args.totals.now.places c.args.totals.now.text c.args.gone.now.numbers (rw c.nodes.ensures at c.know_rising.ensures) c.requires.exact c.requires.places c.requires.text c.requires.none;
   room = omega arith;
 }
 

@@ -9,7 +9,7 @@ use Rattle.instance_table.proofs.walk.turn.Goals as goal
 pub returns-in_default : goal.returns-in_default
 returns-in_default c = λ start walked unseen.
     let rows = rows_along c.args.way c.args.nodes.now in
-    let end = walk_end rows start c.args.seen.now c.args.waiting.now.items (along_rise c.args.way c.args.nodes.now c.len.ensures.rises) walked (search (rules, nothing_left, c.in_default.ensures.items)) in
+    let end = walk_end rows start c.args.seen.now c.args.waiting.now.items (along_rise c.args.way c.args.nodes.now c.know_rising.ensures) walked (search (rules, nothing_left, c.in_default.ensures.items)) in
     sym (ap (is_among c.args.end) (sym end) ∙ unseen)
 
 pub returns-in_ok-add_next : goal.returns-in_ok-add_next
@@ -17,7 +17,7 @@ returns-in_ok-add_next c = λ start walked unseen.
     let rows = rows_along c.args.way c.args.nodes.now in
     let who = c.in-Some.who in
     let new : is_among who c.args.seen.now ≡ false = from_not c.in_ok-insert.field-0 (is_among who c.args.seen.now) c.in_ok-insert.ensures.added c.if-branch.true in (
-      rw (c.in_ok-add_next.ensures, c.in_ok-insert.ensures.numbers) (walk_on rows start c.args.seen.now c.args.waiting.now.items c.pop.new.self.items who (along_rise c.args.way c.args.nodes.now c.len.ensures.rises) walked c.in-Some.ensures.items),
+      rw (c.in_ok-add_next.ensures, c.in_ok-insert.ensures.numbers) (walk_on rows start c.args.seen.now c.args.waiting.now.items c.pop.new.self.items who (along_rise c.args.way c.args.nodes.now c.know_rising.ensures) walked c.in-Some.ensures.items),
       rw c.in_ok-insert.ensures.numbers (still_unseen c.args.end who c.args.seen.now unseen (sym c.if-eq.ensures)),
       rw (c.in_ok-add_next.ensures, c.in_ok-insert.ensures.numbers) (less_on rows c.args.seen.now c.args.waiting.now.items c.pop.new.self.items who c.in-Some.ensures.items new),
     )

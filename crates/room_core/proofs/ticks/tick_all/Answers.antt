@@ -1,7 +1,11 @@
-use Rattle.std.proofs.Common.{◌≡◌, ◌<◌, All, length, sym, subst, arith}
+use Rattle.std.proofs.Common.{◌≡◌, ◌<◌, ◌≤◌, ◌+◌, All, List, length, sym, subst, arith}
+use Rattle.std.specs.List.{sum_by}
+use Rattle.room_core.specs.declared.client.Client.{Client}
+use Rattle.room_core.specs.Costs.{session_cost}
 use Rattle.room_core.specs.Stands.{ClientStands}
+use Rattle.room_core.specs.Values.{session_of_client}
 use Rattle.live_state.specs.Live.{rows_of, schema_of}
-use Rattle.room_core.proofs.TickedAll.{Done, done_more, next_same, cost_more}
+use Rattle.room_core.proofs.TickedAll.{Done, done_more, next_same, cost_more, cost_after}
 use Rattle.room_core.proofs.ticks.tick_all.Goals as goal
 
 pub tick_one-requires : goal.tick_one-requires
@@ -32,3 +36,25 @@ loop-client-preserved g c =
     let more = done_more live shared first items at client c.tick_one.new.client c.in_ok-frame.frame c.loop-client.outs c.send_where.new.outs long within done c.in_ok-frame.ensures.ticks c.in_ok-send_where.ensures in
     let cost = cost_more live first items at client c.args.steps.now c.loop-client.steps c.tick_one.new.steps long within was.rest was.cost c.in_ok-frame.ensures.cost in
     record { rest = more.rest; ticked = more.ticked; stand = more.stand; outs = more.outs; cost = cost }
+
+pub returns-in_err-frame-clause-cost : goal.returns-in_err-frame-clause-cost
+returns-in_err-frame-clause-cost g c =
+    let live = c.args.live.now in
+    let first = c.deref_mut-client-items.result.now in
+    let at = c.loop-client.client-index in
+    let was = c.loop-client.invariant in
+    let within : at < length first = omega arith in
+    let long : length c.loop-client.client-items ≡ length first = omega arith in
+    let most = cost_after live first c.loop-client.client-items at c.client-item.result c.args.steps.now c.loop-client.steps c.tick_one.new.steps long within was.rest was.cost c.tick_one.ensures.cost in
+    subst (λ (cs : List Client). c.tick_one.new.steps ≤ c.args.steps.now + sum_by (λ (x : Client). session_cost (schema_of live) (rows_of live) (session_of_client x)) cs) c.deref_mut-client-items.ensures.value most
+
+pub returns-in_err-send_where-clause-cost : goal.returns-in_err-send_where-clause-cost
+returns-in_err-send_where-clause-cost g c =
+    let live = c.args.live.now in
+    let first = c.deref_mut-client-items.result.now in
+    let at = c.loop-client.client-index in
+    let was = c.loop-client.invariant in
+    let within : at < length first = omega arith in
+    let long : length c.loop-client.client-items ≡ length first = omega arith in
+    let most = cost_after live first c.loop-client.client-items at c.client-item.result c.args.steps.now c.loop-client.steps c.tick_one.new.steps long within was.rest was.cost c.tick_one.ensures.cost in
+    subst (λ (cs : List Client). c.tick_one.new.steps ≤ c.args.steps.now + sum_by (λ (x : Client). session_cost (schema_of live) (rows_of live) (session_of_client x)) cs) c.deref_mut-client-items.ensures.value most

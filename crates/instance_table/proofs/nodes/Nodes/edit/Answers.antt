@@ -3,8 +3,9 @@ use Rattle.lists.specs.Rising.{RisesFrom}
 use Rattle.trees.specs.declared.slot.Slot.{Slot}
 use Rattle.trees.specs.Slots.{entries_in}
 use Rattle.instance_table.specs.declared.node.Node.{Node}
-use Rattle.instance_table.specs.Bodies.{CanEdit}
+use Rattle.instance_table.specs.Bodies.{CanEdit, row_of}
 use Rattle.instance_table.specs.Changes.{edited_node}
+use Rattle.instance_table.specs.Found.{item_number}
 use Rattle.instance_table.specs.Nodes.{at_node, node_at, number_of}
 use Rattle.instance_table.proofs.NodeLaws.{at_missing, entries_rise, slot_found, slot_missing, slots_edited}
 use Rattle.instance_table.proofs.nodes.Nodes.edit.Goals as goal
@@ -34,9 +35,15 @@ returns-clause-after c =
 pub returns-clause-rises : goal.returns-clause-rises
 returns-clause-rises c = subst (RisesFrom number_of 0) c.self.view_is (entries_rise 0 c.self.inside.slots.items c.self.invariant.0)
 
-pub edit-requires : goal.edit-requires
-edit-requires c =
+-- the row in the slot is that of the number
+there : (c : goal.After-index_mut) → node_at c.args.self.now c.args.who ≡ c.index_mut.result.now.item
+there c =
     let here = rw c.as_slice.ensures.value at c.in-Ok.ensures.found in
     let found = slot_found c.who.inside.0 c.self.inside.slots.items c.in-Ok.at c.index_mut.result.now c.self.invariant.0 here.0 (here.1 c.index_mut.result.now) in
-    let there : node_at c.args.self.now c.args.who ≡ c.index_mut.result.now.item = sym (ap₂ node_at c.self.view_is c.who.view_is) ∙ (found ∙ ap (λ (s : Slot Node). s.item) (sym c.index_mut.ensures.value)) in
-    subst (λ (o : Option Node). IfSome o (λ n. CanEdit c.args.command.now n.body)) there c.requires
+    sym (ap₂ node_at c.self.view_is c.who.view_is) ∙ (found ∙ ap (λ (s : Slot Node). s.item) (sym c.index_mut.ensures.value))
+
+pub edit-requires-clause-number : goal.edit-requires-clause-number
+edit-requires-clause-number c = subst (λ (o : Option Node). IfSome o (λ n. c.args.number ≡ item_number c.args.command.now (row_of n.body))) (there c) c.requires.number
+
+pub edit-requires-clause-can : goal.edit-requires-clause-can
+edit-requires-clause-can c = subst (λ (o : Option Node). IfSome o (λ n. CanEdit c.args.command.now n.body)) (there c) c.requires.can

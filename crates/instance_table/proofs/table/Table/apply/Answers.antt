@@ -1,20 +1,87 @@
-use Rattle.std.proofs.Common.{◌≡◌, ◌∙◌, Some, ap, sym, subst, refl}
+use Rattle.std.proofs.Common.{◌≡◌, ◌∙◌, None, Some, ap, sym, subst, refl, arith}
 use Rattle.state_model.specs.Commands.{answer_of, do_command, number_made, refusal_of, state_after}
+use Rattle.state_model.specs.State.{State}
 use Rattle.command_laws.specs.Kept.{IsKept}
-use Rattle.instance_table.specs.Table.{TableState}
-use Rattle.command_laws.proofs.LaterLaws.{later_command}
-use Rattle.instance_table.proofs.TableSteps.{refused_answers}
+use Rattle.command_laws.specs.Later.{IsLater}
+use Rattle.command_laws.proofs.LaterLaws.{later_command, later_same}
+use Rattle.instance_table.specs.declared.plan.Verdict.{Verdict}
+use Rattle.instance_table.specs.Found.{IsJudged}
+use Rattle.instance_table.specs.Nodes.{node_at}
+use Rattle.instance_table.specs.Table.{TableState, state_in}
+use Rattle.instance_table.proofs.ChangeLaws.{of_some}
+use Rattle.instance_table.proofs.JudgeLaws.{done_as_planned}
+use Rattle.instance_table.proofs.TableSteps.{can_edit, refused_answers, undone_table}
 use Rattle.instance_table.proofs.table.Table.apply.Goals as goal
 
-pub returns-in-Some-clause-answer : goal.returns-in-Some-clause-answer
-returns-in-Some-clause-answer c =
+pub change-requires-clause-can : goal.change-requires-clause-can
+change-requires-clause-can c =
+    let i = c.self.inside in
+    let es = i.graph.nodes in
+    let command = c.args.command.now in
+    let judged = subst (λ (v : Verdict). IsJudged i.schema es i.given i.totals.places i.totals.text command v) c.in-Changes.is c.in-Ok.ensures.value in
+    of_some (node_at es c.in-Changes.holder) (λ n at. can_edit i.schema es i.given i.totals.places i.totals.text c.in-Changes.holder command n c.self.invariant.0 judged.0 judged.1 at)
+
+pub invariant_of-self : goal.invariant_of-self
+invariant_of-self c =
+    let i = c.self.inside in
+    let es = i.graph.nodes in
+    let command = c.args.command.now in
+    let judged = subst (λ (v : Verdict). IsJudged i.schema es i.given i.totals.places i.totals.text command v) c.in-Changes.is c.in-Ok.ensures.value in
+    let done = done_as_planned i.schema es c.change.new.graph.nodes i.given i.totals.places i.totals.text c.in-Changes.holder command c.in-Changes.plan c.self.invariant.0 c.know_texts.ensures judged c.in-Ok-change.ensures.ok in
+    (done.table, omega (arith, c.self.invariant.1, done.long))
+
+pub invariant_of-self-in-Err-change : goal.invariant_of-self-in-Err-change
+invariant_of-self-in-Err-change c =
+    let i = c.self.inside in
+    let back = undone_table i.schema c.args.command.now c.in-Changes.holder i.graph.nodes c.change.new.graph.nodes i.given i.totals.places i.totals.text c.self.invariant.0 c.in-Err-change.ensures.err in
+    (back.table, omega (arith, back.long, c.self.invariant.1))
+
+pub returns-in-Refused-clause-answer : goal.returns-in-Refused-clause-answer
+returns-in-Refused-clause-answer c =
+    let i = c.self.inside in
     let t = c.args.self.now in
     let command = c.args.command.now in
-    let told : refusal_of t.schema t.state command ≡ Some c.in-Some.fault = ap (λ (t : TableState). refusal_of t.schema t.state command) (sym c.self.view_is) ∙ (sym c.in-Ok.ensures.value ∙ c.in-Some.is) in
-    refused_answers (do_command t.schema t.state command) t t c.in-Some.fault (ap (λ o. answer_of o (state_after t.schema t.state command) (number_made t.state command)) told) refl
+    let judged = subst (λ (v : Verdict). IsJudged i.schema i.graph.nodes i.given i.totals.places i.totals.text command v) c.in-Refused.is c.in-Ok.ensures.value in
+    let told : refusal_of t.schema t.state command ≡ Some c.in-Refused.fault = ap (λ (t : TableState). refusal_of t.schema t.state command) (sym c.self.view_is) ∙ judged in
+    refused_answers (do_command t.schema t.state command) t t c.in-Refused.fault (ap (λ o. answer_of o (state_after t.schema t.state command) (number_made t.state command)) told) refl
 
-pub returns-clause-later : goal.returns-clause-later
-returns-clause-later c =
+pub returns-in-Ok-make-clause-later : goal.returns-in-Ok-make-clause-later
+returns-in-Ok-make-clause-later c =
     let t = c.args.self.now in
     let kept : IsKept t.schema t.state = subst (λ (t : TableState). IsKept t.schema t.state) c.self.view_is c.self.invariant.0.kept in
-    later_command t.schema t.state c.args.command.now c.perform.new.self.state c.in-Ok-perform.made kept c.in-Ok-perform.ensures.ok
+    later_command t.schema t.state c.args.command.now c.make.new.self.state c.in-Ok-make.made kept c.in-Ok-make.ensures.ok
+
+pub returns-in-Ok-change-clause-answer : goal.returns-in-Ok-change-clause-answer
+returns-in-Ok-change-clause-answer c =
+    let i = c.self.inside in
+    let es = i.graph.nodes in
+    let command = c.args.command.now in
+    let judged = subst (λ (v : Verdict). IsJudged i.schema es i.given i.totals.places i.totals.text command v) c.in-Changes.is c.in-Ok.ensures.value in
+    let done = done_as_planned i.schema es c.change.new.graph.nodes i.given i.totals.places i.totals.text c.in-Changes.holder command c.in-Changes.plan c.self.invariant.0 c.know_texts.ensures judged c.in-Ok-change.ensures.ok in
+    let after = state_in c.change.new.graph.nodes i.given in (
+      ap (λ (t : TableState). do_command t.schema t.state command) (sym c.self.view_is) ∙ done.answer,
+      ap (λ (t : TableState). let u : TableState = record { schema = t.schema; state = after; swept = t.swept } in u) c.self.view_is,
+    )
+
+pub returns-in-Ok-change-clause-later : goal.returns-in-Ok-change-clause-later
+returns-in-Ok-change-clause-later c =
+    let i = c.self.inside in
+    let es = i.graph.nodes in
+    let command = c.args.command.now in
+    let judged = subst (λ (v : Verdict). IsJudged i.schema es i.given i.totals.places i.totals.text command v) c.in-Changes.is c.in-Ok.ensures.value in
+    let done = done_as_planned i.schema es c.change.new.graph.nodes i.given i.totals.places i.totals.text c.in-Changes.holder command c.in-Changes.plan c.self.invariant.0 c.know_texts.ensures judged c.in-Ok-change.ensures.ok in
+    let later = later_command i.schema (state_in es i.given) command (state_in c.change.new.graph.nodes i.given) None c.self.invariant.0.kept done.answer in
+    subst (λ (t : TableState). IsLater t.state (state_in c.change.new.graph.nodes i.given)) c.self.view_is later
+
+pub returns-in-Err-change-clause-answer : goal.returns-in-Err-change-clause-answer
+returns-in-Err-change-clause-answer c =
+    let i = c.self.inside in
+    let back = undone_table i.schema c.args.command.now c.in-Changes.holder i.graph.nodes c.change.new.graph.nodes i.given i.totals.places i.totals.text c.self.invariant.0 c.in-Err-change.ensures.err in
+    ap (λ (s : State). let t : TableState = record { schema = i.schema; state = s; swept = i.swept.numbers } in t) back.same ∙ c.self.view_is
+
+pub returns-in-Err-change-clause-later : goal.returns-in-Err-change-clause-later
+returns-in-Err-change-clause-later c =
+    let i = c.self.inside in
+    let back = undone_table i.schema c.args.command.now c.in-Changes.holder i.graph.nodes c.change.new.graph.nodes i.given i.totals.places i.totals.text c.self.invariant.0 c.in-Err-change.ensures.err in
+    let now = subst (λ (s : State). IsLater (state_in i.graph.nodes i.given) s) (sym back.same) (later_same (state_in i.graph.nodes i.given)) in
+    subst (λ (t : TableState). IsLater t.state (state_in c.change.new.graph.nodes i.given)) c.self.view_is now

@@ -55,3 +55,23 @@ returns-clause-cost g c =
     let here = ap count c.nodes-nodes.ensures in
     let same = ap (λ (t : TableState). places_behind t.schema t.state.rows who tag) c.self.view_is in
     omega (arith, c.in_ok-numbers.ensures.cost, here, (live_behind i.schema (rows_in es) who tag live).1, same)
+
+pub returns-then-is_none-clause-most : goal.returns-then-is_none-clause-most
+returns-then-is_none-clause-most g c = omega arith
+
+pub returns-in_err-numbers-clause-most : goal.returns-in_err-numbers-clause-most
+returns-in_err-numbers-clause-most g c =
+    let i = c.self.inside in
+    let es = i.graph.nodes in
+    let who = c.args.who in
+    let tag = c.args.tag in
+    let there = sym (ap is_some c.get.ensures) ∙ (some_copied c.get.result ∙ c.is_none.ensures) in
+    let live = live_node es who ∙ (there ∙ ap not c.if-is_none.false) in
+    let count = λ (l : List (ℕ × Node)).
+    place_count (rows_of (reached (rows_through i.schema tag (rows_in l)) who) (rows_in l)) in
+    let here = ap count c.nodes-nodes.ensures in
+    let same = ap (λ (t : TableState). places_behind t.schema t.state.rows who tag) c.self.view_is in
+    omega (arith, c.in_err-numbers.ensures.most, here, (live_behind i.schema (rows_in es) who tag live).1, same)
+
+pub returns-clause-most : goal.returns-clause-most
+returns-clause-most g c = omega (arith, returns-clause-cost g c)

@@ -8,7 +8,7 @@ use Rattle.room_core.proofs.parts.Parts.acknowledge.Goals as goal
 pub returns-clause-room : goal.returns-clause-room
 returns-clause-room c =
     let p = c.args.self.now in
-    acknowledge_room p.def p.criteria p.live p.shared p.clients.items c.args.session p.places c.acknowledge.new.clients.items c.args.bytes.now c.requires.bytes c.requires.connected c.acknowledge.ensures
+    acknowledge_room p.def p.criteria p.live p.shared p.clients.items c.args.session p.places c.acknowledge.new.clients.items c.args._bytes.now c.requires.bytes c.requires.connected c.acknowledge.ensures
 
 pub returns-clause-stands : goal.returns-clause-stands
 returns-clause-stands c =

@@ -8,4 +8,4 @@ returns-clause-stands c =
     let p = c.args.self.now in
     let did = c.apply-answer.ensures in
     command_stands p.shared p.clients.items p.live c.apply-answer.new.self c.args.command.now c.apply-answer.result c.answered.result (p.none ≡ no_members)
-    did.answer c.answered.ensures c.schema.ensures.kept did.schema did.later c.requires.stands
+    did.answer c.answered.ensures c.know_rows.ensures.kept did.schema did.later c.requires.stands

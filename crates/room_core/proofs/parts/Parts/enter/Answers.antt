@@ -16,7 +16,7 @@ returns-clause-room c =
     let has : has_reservation (room_of p).seats c.args.session ≡ true = search rules in
     let unused : list_any (λ (s : Seat). bytes_eq s.token c.args.fresh) p.places.seats ≡ false = search rules in
     let taken : c.take.new.self ≡ taken_in c.args.session c.args.fresh p.places = search rules in
-    enter_room p.def p.criteria p.live p.shared p.clients.items c.args.session p.places c.take.new.self c.join.new.clients.items c.args.token c.args.fresh has unused taken c.join.ensures
+    enter_room p.def p.criteria p.live p.shared p.clients.items c.args.session p.places c.take.new.self c.join.new.clients.items c.args._token c.args.fresh has unused taken c.join.ensures
 
 pub returns-clause-stands : goal.returns-clause-stands
 returns-clause-stands c =

@@ -16,15 +16,15 @@ use Rattle.room_core.proofs.parts.Parts.tick.Goals as goal
 pub settle-requires : goal.settle-requires
 settle-requires g c =
     let p = c.args.self.now in
-    can_settle p.live c.sweep.new.self p.shared p.clients.items c.in_ok-sweep.ensures.freed c.in_ok-sweep.ensures.later c.schema-2.ensures.kept c.requires.stands.0 p.none c.requires.stands.1
+    can_settle p.live c.sweep.new.self p.shared p.clients.items c.in_ok-sweep.ensures.freed c.in_ok-sweep.ensures.later c.know_rows-2.ensures.kept c.requires.stands.0 p.none c.requires.stands.1
 
 pub encode_shared-requires : goal.encode_shared-requires
 encode_shared-requires g c =
     let p = c.args.self.now in
     let live = c.sweep.new.self in
     record {
-      tick = last_tick p.live live p.shared p.clients.items c.in_ok-sweep.ensures.freed c.in_ok-sweep.ensures.later c.schema-2.ensures.kept c.requires.stands.0;
-      is_settled = shared_settled p.live live p.shared p.clients.items c.in_ok-sweep.ensures.freed c.in_ok-sweep.ensures.later c.schema-2.ensures.kept c.requires.stands.0
+      tick = last_tick p.live live p.shared p.clients.items c.in_ok-sweep.ensures.freed c.in_ok-sweep.ensures.later c.know_rows-2.ensures.kept c.requires.stands.0;
+      is_settled = shared_settled p.live live p.shared p.clients.items c.in_ok-sweep.ensures.freed c.in_ok-sweep.ensures.later c.know_rows-2.ensures.kept c.requires.stands.0
           p.none c.settle.new.self c.requires.stands.1 c.in_ok-settle.ensures.settled;
     }
 
@@ -34,12 +34,12 @@ tick_all-requires g c =
     let live = c.sweep.new.self in
     record {
       begun = record {
-        tick = last_tick p.live live p.shared p.clients.items c.in_ok-sweep.ensures.freed c.in_ok-sweep.ensures.later c.schema-2.ensures.kept c.requires.stands.0;
-        settled = shared_settled p.live live p.shared p.clients.items c.in_ok-sweep.ensures.freed c.in_ok-sweep.ensures.later c.schema-2.ensures.kept c.requires.stands.0
+        tick = last_tick p.live live p.shared p.clients.items c.in_ok-sweep.ensures.freed c.in_ok-sweep.ensures.later c.know_rows-2.ensures.kept c.requires.stands.0;
+        settled = shared_settled p.live live p.shared p.clients.items c.in_ok-sweep.ensures.freed c.in_ok-sweep.ensures.later c.know_rows-2.ensures.kept c.requires.stands.0
             p.none c.settle.new.self c.requires.stands.1 c.in_ok-settle.ensures.settled;
         is_part = c.in_ok-part.ensures.part;
       };
-      each = each_stands p.live live p.shared p.clients.items c.in_ok-sweep.ensures.freed c.in_ok-sweep.ensures.later c.schema-2.ensures.kept c.requires.stands.0
+      each = each_stands p.live live p.shared p.clients.items c.in_ok-sweep.ensures.freed c.in_ok-sweep.ensures.later c.know_rows-2.ensures.kept c.requires.stands.0
           c.forget_all.new.clients.items c.forget_all.ensures.clients c.forget_all.ensures.there;
     }
 
@@ -78,9 +78,25 @@ returns-clause-cost g c =
     let settles = c.in_ok-settle.ensures.settled in
     let no_pairs = ap (λ (m : Members). length m.now) c.requires.stands.1 in
     tick_steps live.table (swept_table p.live.table) freed p.clients.items c.forget_all.new.clients.items c.forget_all.ensures.clients
-    (place_count (rows_of p.live)) (view_now p.shared) (view_now shared) c.args.steps.now c.sweep.new.steps c.settle.new.steps c.encode_shared.new.steps c.tick_all.new.steps
+    (place_count (rows_of p.live)) (view_now p.shared) (view_now shared) c.args.steps.now c.sweep.new._steps c.settle.new.steps c.encode_shared.new.steps c.tick_all.new.steps
     (ap view_now settles ∙ ap (λ (m : Members). permitted (schema_of live) (rows_of live) m.now) c.requires.stands.1 ∙ ap (λ (t : TableState). permitted t.schema t.state.rows no_members.now) freed)
     c.sweep.ensures.cost
-    (subst (λ n. c.settle.new.steps ≤ c.sweep.new.steps + (place_count (rows_of live) + n)) no_pairs c.settle.ensures.cost)
+    (subst (λ n. c.settle.new.steps ≤ c.sweep.new._steps + (place_count (rows_of live) + n)) no_pairs c.settle.ensures.cost)
     (subst (λ (rows : List RowEntry). c.encode_shared.new.steps ≤ c.settle.new.steps + (place_count rows + place_count (view_now shared))) (ap view_before settles) c.encode_shared.ensures.cost)
     c.in_ok-outs.ensures.cost
+
+pub returns-in_err-outs-clause-cost : goal.returns-in_err-outs-clause-cost
+returns-in_err-outs-clause-cost g c =
+    let p = c.args.self.now in
+    let live = c.sweep.new.self in
+    let shared = c.settle.new.self in
+    let freed = c.in_ok-sweep.ensures.freed in
+    let settles = c.in_ok-settle.ensures.settled in
+    let no_pairs = ap (λ (m : Members). length m.now) c.requires.stands.1 in
+    tick_steps live.table (swept_table p.live.table) freed p.clients.items c.forget_all.new.clients.items c.forget_all.ensures.clients
+    (place_count (rows_of p.live)) (view_now p.shared) (view_now shared) c.args.steps.now c.sweep.new._steps c.settle.new.steps c.encode_shared.new.steps c.tick_all.new.steps
+    (ap view_now settles ∙ ap (λ (m : Members). permitted (schema_of live) (rows_of live) m.now) c.requires.stands.1 ∙ ap (λ (t : TableState). permitted t.schema t.state.rows no_members.now) freed)
+    c.sweep.ensures.cost
+    (subst (λ n. c.settle.new.steps ≤ c.sweep.new._steps + (place_count (rows_of live) + n)) no_pairs c.settle.ensures.cost)
+    (subst (λ (rows : List RowEntry). c.encode_shared.new.steps ≤ c.settle.new.steps + (place_count rows + place_count (view_now shared))) (ap view_before settles) c.encode_shared.ensures.cost)
+    c.in_err-outs.ensures.cost

@@ -1,7 +1,7 @@
 use Rattle.std.proofs.Common.{◌∙◌, ap, arith}
 use Rattle.std.proofs.lemmas.Result.{err_from_is_err_and}
-use Rattle.view_members.specs.Standings.{come_all}
-use Rattle.view_members.proofs.ComeLaws.{added_members, none_left, not_full, come_all_length, refused}
+use Rattle.view_members.specs.Standings.{add_all}
+use Rattle.view_members.proofs.AddLaws.{added_members, none_left, not_full, add_all_length, refused}
 use Rattle.view_members.proofs.SpareLaws.{spares_rise}
 use Rattle.view_members.proofs.members.Members.add_all.Goals as goal
 
@@ -19,10 +19,10 @@ invariant_of-self-2 c =
     let rises = c.take_room.ensures.kept.0 in
     let taken = c.in_ok-take_room.ensures.value in
     let up = rw (← taken.0) at (spares_rise ps old rises) in
-    rw c.come_each.ensures
+    rw c.add_each.ensures
     record {
       spare = none_left ps old es up c.self.invariant.spare taken.2;
-      few = omega (arith, come_all_length ps es up, taken.1);
+      few = omega (arith, add_all_length ps es up, taken.1);
     }
 
 pub returns : goal.returns
@@ -32,6 +32,6 @@ returns c =
     let rises = c.take_room.ensures.kept.0 in
     let fit = c.take_room.ensures.fit in
     let taken = c.in_ok-take_room.ensures.value in
-    let new = c.come_each.ensures ∙ ap (come_all ps) taken.0 in
+    let new = c.add_each.ensures ∙ ap (add_all ps) taken.0 in
     rw (← c.self.view_is, new)
     (not_full ps old fit rises c.self.invariant.spare (rw taken.0 at taken.1), added_members ps old fit rises)

@@ -1,0 +1,10 @@
+//! The first bytes of frames. After Colyseus 0.16.
+
+/// A server's welcome; a client's acknowledgement of it.
+pub const JOIN_ROOM: u8 = 10;
+
+/// A full state.
+pub const ROOM_STATE: u8 = 14;
+
+/// A patch of the state.
+pub const ROOM_STATE_PATCH: u8 = 15;
