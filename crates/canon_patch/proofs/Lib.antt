@@ -1,7 +1,6 @@
 pub mod Applying
 pub mod ByRef
-pub mod KindsKept
+pub mod LeadingRows
 pub mod MergeLaws
 pub mod NewRows
-pub mod ShortRows
 pub mod Encoded

@@ -1,6 +1,5 @@
 pub mod Applying
 pub mod ByRef
-pub mod Kinds
 pub mod Merge
 pub mod Names
 pub mod NewRows

@@ -2,10 +2,10 @@
 ghost use Rattle.std.specs.Prelude.{◌≡◌, ◌≤◌, ◌++◌, ◌^◌, IsTrue, OnOk, Some, length, map, option_copied, slice_get};
 ghost use Rattle.schema_model.specs.declared.class.Item.TheVariants.{Scalar};
 ghost use Rattle.state_model.specs.declared.place.Wanted.TheVariants.{Item as AnItem};
+ghost use Rattle.state_model.specs.declared.row.Row.TheVariants.{Array};
 ghost use Rattle.wire_model.specs.Edits.{encoded};
-ghost use Rattle.wire_model.specs.Patch.{array_edits, slot_edits};
+ghost use Rattle.wire_model.specs.Patch.{array_edits, is_short, slot_edits};
 ghost use Rattle.canon_patch.specs.Encoded.{first_encoded};
-ghost use Rattle.canon_patch.specs.Positions.{has_positions};
 
 use crate::by_ref::push_by_ref;
 use crate::place::{kind_wanted, push_place};
@@ -22,7 +22,8 @@ pub(crate) fn push_values(
     old: &Values,
     new: &Values,
 ) -> Result<(), Memory>
-    requires { IsTrue (has_positions to.now.schema.now home.now old.now new.now) }
+    requires old { IsTrue (is_short to.now.schema.now (Array home.now old.now)) }
+    requires new { IsTrue (is_short to.now.schema.now (Array home.now new.now)) }
     ensures { OnOk result (ops.new ≡ ops.old ++ map encoded (array_edits to.now.schema.now to.now.rows.now home.now old.now new.now)) }
 {
     if is_filtered(to.schema, *home) {

@@ -1,14 +1,14 @@
 //! The blocks of a patch: those of the rows in both lists, then the new rows.
-ghost use Rattle.std.specs.Prelude.{◌≡◌, ◌≤◌, ◌++◌, ◌||◌, IfOk, IsTrue, OnOk, map, is_some, length, drop};
+ghost use Rattle.std.specs.Prelude.{◌≡◌, ◌≤◌, ◌++◌, ◌||◌, IfOk, IfSome, IsTrue, None, OnOk, map, is_some, length, drop};
 ghost use Rattle.std.specs.Option.{ForSome, option_map};
 ghost use Rattle.state_model.specs.Rows.{numbers_of, row_at};
 ghost use Rattle.state_model.specs.Reached.{is_among};
 ghost use Rattle.wire_model.specs.Edits.{encoded, encoded_blocks};
 ghost use Rattle.wire_model.specs.Frame.{patch};
-ghost use Rattle.wire_model.specs.Patch.{are_short, common_block, common_blocks, is_short, new_blocks, new_edits};
-ghost use Rattle.canon_patch.specs.Kinds.{keeps_kind, kinds_agree};
+ghost use Rattle.wire_model.specs.Patch.{common_block, common_blocks, is_short, new_blocks, new_edits};
 ghost use Rattle.canon_patch.specs.Names.{block_encoded};
 ghost use Rattle.canon_patch.specs.NewRows.{next_new};
+ghost use Rattle.canon_patch.specs.Positions.{have_positions, may_lead};
 
 use crate::marks::add_number;
 use crate::names::{names_in_blocks, push_names};
@@ -22,15 +22,13 @@ use std::alloc::Global;
 use wire_model::{Block, Blocks, Ops};
 
 /// The patch that leads from old rows to new ones: first the blocks of the rows that are in both, rising, then each
-/// new row whole, in the order in which the operations first name them. In both lists an array that goes by position has
-/// at most 2^31 values (`are_short`), and a row that is in both is of one kind (`kinds_agree`).
+/// new row whole, in the order in which the operations first name them. An array that goes by position has at most 2^31
+/// values, and had where it was there (`have_positions`).
 ///
 /// It is near-linear in the rows and their places. `Err` is want of memory.
 #[tactic(auto, using(crate::proofs::Encoded::patch_encoded))]
 pub fn patch(alloc: Global, schema: &Schema, old: &Rows, new: &Rows) -> Result<Blocks, Memory>
-    requires old { IsTrue (are_short schema.now old.now) }
-    requires new { IsTrue (are_short schema.now new.now) }
-    requires kinds { IsTrue (kinds_agree old.now new.now) }
+    requires { IsTrue (have_positions schema.now old.now new.now) }
     ensures { IfOk result (λ blocks. blocks ≡ patch schema.now old.now new.now) }
 {
     let to = Target {
@@ -46,9 +44,7 @@ pub fn patch(alloc: Global, schema: &Schema, old: &Rows, new: &Rows) -> Result<B
 
 // The blocks of the numbers in both lists, rising.
 fn common_blocks(to: &Target<'_>, old: &Rows) -> Result<Blocks, Memory>
-    requires old { IsTrue (are_short to.now.schema.now old.now) }
-    requires new { IsTrue (are_short to.now.schema.now to.now.rows.now) }
-    requires kinds { IsTrue (kinds_agree old.now to.now.rows.now) }
+    requires { IsTrue (have_positions to.now.schema.now old.now to.now.rows.now) }
     ensures { IfOk result (λ blocks. blocks ≡ encoded_blocks (common_blocks to.now.schema.now old.now to.now.rows.now)) }
 {
     let mut blocks = Seq::new(to.alloc);
@@ -59,16 +55,14 @@ fn common_blocks(to: &Target<'_>, old: &Rows) -> Result<Blocks, Memory>
 }
 
 // The block of a new row, where there is an old one of its number.
-#[tactic(auto, using(crate::proofs::Encoded::block_is_encoded, crate::proofs::ShortRows::short_at))]
+#[tactic(auto, using(crate::proofs::Encoded::block_is_encoded))]
 fn push_common(
     to: &Target<'_>,
     blocks: &mut Blocks,
     old: &Rows,
     entry: &RowEntry,
 ) -> Result<(), Memory>
-    requires old { IsTrue (are_short to.now.schema.now old.now) }
-    requires new { IsTrue (is_short to.now.schema.now entry.now.row) }
-    requires kind { IsTrue (keeps_kind entry.now.row (row_at old.now entry.now.who)) }
+    requires { IsTrue (may_lead to.now.schema.now entry.now.row (row_at old.now entry.now.who)) }
     ensures { OnOk result (blocks.new ≡ blocks.old ++ encoded_blocks (common_block to.now.schema.now to.now.rows.now entry.now (row_at old.now entry.now.who))) }
 {
     match old.get(entry.who) {
@@ -97,7 +91,7 @@ fn push_new_blocks(
     old: &Rows,
     names: Vec<u32>,
 ) -> Result<(), Memory>
-    requires { IsTrue (are_short to.now.schema.now to.now.rows.now) }
+    requires { IsTrue (have_positions to.now.schema.now old.now to.now.rows.now) }
     ensures { OnOk result (blocks.new ≡ blocks.old ++ encoded_blocks (new_blocks (length to.now.rows.now) to.now.schema.now to.now.rows.now (numbers_of old.now) names.items)) }
 {
     let mut names = names;
@@ -119,6 +113,7 @@ fn push_new_blocks(
 // The first number from a place on that isn't done, and the place behind it.
 fn next_named(names: &[u32], from: usize, old: &Rows, done: &NumberSet) -> Option<(u32, usize)>
     ensures within { ForSome result (λ n. n.1 ≤ length names.now) }
+    ensures fresh { ForSome result (λ n. row_at old.now n.0 ≡ None) }
     ensures next { option_map (λ n. (n.0, drop n.1 names.now)) result ≡ next_new (λ k. is_some (row_at old.now k) || is_among k done.now) (drop from names.now) }
 {
     for at in from..names.len() {
@@ -138,9 +133,8 @@ fn is_done(old: &Rows, done: &NumberSet, who: u32) -> bool
 }
 
 // The operations of a whole new row, where it is there.
-#[tactic(auto, using(crate::proofs::ShortRows::short_at))]
 fn new_ops(to: &Target<'_>, who: RefNum) -> Result<Ops, Memory>
-    requires { IsTrue (are_short to.now.schema.now to.now.rows.now) }
+    requires { IfSome (row_at to.now.rows.now who) (λ r. IsTrue (is_short to.now.schema.now r)) }
     ensures { IfOk result (λ ops. ops ≡ map encoded (new_edits to.now.schema.now to.now.rows.now who)) }
 {
     match to.rows.get(who) {

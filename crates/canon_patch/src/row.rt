@@ -1,10 +1,9 @@
 //! The operations on one row.
 ghost use Rattle.std.specs.Prelude.{◌≡◌, ◌++◌, IfOk, IsTrue, OnOk, map};
-ghost use Rattle.state_model.specs.Places.{same_kind};
 ghost use Rattle.state_model.specs.Rows.{emptied};
 ghost use Rattle.wire_model.specs.Edits.{encoded};
 ghost use Rattle.wire_model.specs.Patch.{is_short, row_edits, whole_edits, whole_start};
-ghost use Rattle.canon_patch.specs.Positions.{row_has_positions};
+ghost use Rattle.canon_patch.specs.Positions.{has_positions};
 
 use crate::array::push_values;
 use crate::fields::push_fields;
@@ -19,7 +18,7 @@ use wire_model::{Op, Ops};
 
 // The operations that lead from an old row to a new one of the same kind.
 pub(crate) fn push_row(to: &Target<'_>, ops: &mut Ops, old: &Row, new: &Row) -> Result<(), Memory>
-    requires { IsTrue (row_has_positions to.now.schema.now old.now new.now) }
+    requires { IsTrue (has_positions to.now.schema.now old.now new.now) }
     ensures { OnOk result (ops.new ≡ ops.old ++ map encoded (row_edits to.now.schema.now to.now.rows.now old.now new.now)) }
 {
     match (old, new) {
@@ -33,9 +32,7 @@ pub(crate) fn push_row(to: &Target<'_>, ops: &mut Ops, old: &Row, new: &Row) -> 
 
 // The operations that lead from an old row to a new one of the same kind.
 pub(crate) fn row_ops(to: &Target<'_>, old: &Row, new: &Row) -> Result<Ops, Memory>
-    requires old { IsTrue (is_short to.now.schema.now old.now) }
-    requires new { IsTrue (is_short to.now.schema.now new.now) }
-    requires kind { IsTrue (same_kind old.now new.now) }
+    requires { IsTrue (has_positions to.now.schema.now old.now new.now) }
     ensures { IfOk result (λ ops. ops ≡ map encoded (row_edits to.now.schema.now to.now.rows.now old.now new.now)) }
 {
     let mut ops = Seq::new(to.alloc);

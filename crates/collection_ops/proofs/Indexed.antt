@@ -83,11 +83,6 @@ module _ {E W : Type 0} (number : E → ℕ) (what : E → W) (same : W → W �
   differ-push [] x h d = refl
   differ-push (e ∷ es) x h d = grind (arith, nat_tests, differ-push es x, what-push es x, any-push (map what es) (what e) (what x))
 
-  -- an item that was added is taken out again
-  pub push_undone : (es : List E) (x : E) → IsAbove number (number x) es → rising.remove number (number x) (es ++ x ∷ []) ≡ es
-  push_undone [] x a = grind (arith, nat_tests)
-  push_undone (e ∷ es) x a = grind (arith, nat_tests, a.0, push_undone es x a.1)
-
   -- ---- an item is taken out
 
   -- nothing goes where nothing is the same

@@ -1,4 +1,6 @@
 mod Copies
 mod Indexed
+mod MapIndex
 mod MapLaws
+mod SetIndex
 mod SetLaws

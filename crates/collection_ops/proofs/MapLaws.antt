@@ -14,8 +14,12 @@ use Rattle.state_model.specs.declared.row.MapItem.{MapItem}
 use Rattle.state_model.specs.Sound.{keys_differ}
 use Rattle.state_model.specs.Commands.{put_key}
 use Rattle.collection_ops.specs.declared.fault.ItemFault.TheVariants.{NumbersSpent}
+use Rattle.trees.specs.declared.text_index.TextIndex.{TextIndex}
+use Rattle.trees.specs.Texts.{leads, IsWith, IsWithout}
 use Rattle.collection_ops.specs.Bodies.{MapState, map_number, key_item, if_there, map_put, map_put_over, map_remove, IsMapKept, LeadsKeys}
-use Rattle.collection_ops.proofs.Indexed.{all_differ, item_has, item_found, found_item, item_there, leads-push, differ-push, push_undone, item_out, leads-out, differ-filter}
+use Rattle.collection_ops.specs.Indexes.{key_texts, IsKeyIndex}
+use Rattle.collection_ops.proofs.MapIndex.{index_by, again_index, more_index, less_index}
+use Rattle.collection_ops.proofs.Indexed.{all_differ, item_has, item_found, found_item, item_there, leads-push, differ-push, item_out, leads-out, differ-filter}
 
 -- the key of an item
 abbrev key_in : MapItem → List ℕ
@@ -56,8 +60,8 @@ leads_again : (next : ℕ) (key : List ℕ) (v : Value) (items : List MapItem) (
 leads_again next key v [] i q h = cc
 leads_again next key v (x ∷ items) i q h = grind (arith, nat_tests, leads_again next key v items i q)
 
--- what a state keeps, an index and the answer of a call
-abbrev pub AfterPut : MapState → List ℕ → Value → List MapItem → ℕ → (List ℕ → Option ℕ) → ℕ → Option Value → Type 0
+-- what a state keeps, where its keys lead and the answer of a call
+abbrev AfterPut : MapState → List ℕ → Value → List MapItem → ℕ → (List ℕ → Option ℕ) → ℕ → Option Value → Type 0
 AfterPut s key v after given f n old =
     IsMapKept (record { items = after; given = given }) × LeadsKeys after f × (map_put s key v ≡ Ok (record { items = after; given = given }, (n, old)))
 
@@ -79,20 +83,24 @@ put_twice : (x b : MapItem) (items : List MapItem) → b.number ≡ x.number →
 put_twice x b [] h = grind (arith, nat_tests)
 put_twice x b (e ∷ items) h = grind (arith, nat_tests, put_twice x b items)
 
--- what a state keeps, an index and the answer of a put, where the number of the item is known
-abbrev pub AfterAgain : MapState → ℕ → Value → List MapItem → (List ℕ → Option ℕ) → Value → Type 0
-AfterAgain s n v after f old =
-    IsMapKept (record { items = after; given = s.given }) × LeadsKeys after f
+-- what a state keeps, its index and the answer of a put, where the number of the item is known
+abbrev pub AfterAgain : MapState → ℕ → Value → List MapItem → TextIndex → Value → Type 0
+AfterAgain s n v after index old =
+    IsMapKept (record { items = after; given = s.given }) × IsKeyIndex after index
     × ((key : List ℕ) → option_map map_number (key_item s.items key) ≡ Some n → map_put s key v ≡ Ok (record { items = after; given = s.given }, (n, Some old)))
 
 -- an item is put over another one, which was put over that of the number
-pub put_again : (s : MapState) (n : ℕ) (v : Value) (f : List ℕ → Option ℕ) (blank old : MapItem) (between after : List MapItem) →
-    IsMapKept s → LeadsKeys s.items f → blank.number ≡ n → rising.find map_number n s.items ≡ Some old →
+pub put_again : (s : MapState) (n : ℕ) (v : Value) (index : TextIndex) (blank old : MapItem) (between after : List MapItem) →
+    IsMapKept s → IsKeyIndex s.items index → blank.number ≡ n → rising.find map_number n s.items ≡ Some old →
     between ≡ (if is_some (rising.find map_number n s.items) then rising.put map_number blank s.items else s.items) →
     after ≡ (if is_some (rising.find map_number n between) then rising.put map_number (record { number = n; key = old.key; value = v }) between else between) →
-    AfterAgain s n v after f old.value
-put_again s n v f blank old between after kept leads is at first second = rw whole (own.0, own.1, λ key led. of_key key (item_there map_number key_in bytes_eq same_bytes bytes_eq_self s.items key n led))
+    AfterAgain s n v after index old.value
+put_again s n v index blank old between after kept is same at first second =
+    rw whole (own.0, index_by _ index f (again_index s.items index is x old at refl) own.1, λ key led. of_key key (item_there map_number key_in bytes_eq same_bytes bytes_eq_self s.items key n led))
   where
+    f : List ℕ → Option ℕ
+    f = leads (key_texts s.items) index
+
     number : old.number ≡ n
     number = find_key map_number n s.items old at
 
@@ -106,17 +114,17 @@ put_again s n v f blank old between after kept leads is at first second = rw who
     there = grind (arith, nat_tests, ap (rising.find map_number n) middle, find-put map_number blank s.items n)
 
     whole : after ≡ rising.put map_number x s.items
-    whole = second ∙ (ap (λ b. if b then rising.put map_number x between else between) there ∙ (ap (rising.put map_number x) middle ∙ put_twice x blank s.items is))
+    whole = second ∙ (ap (λ b. if b then rising.put map_number x between else between) there ∙ (ap (rising.put map_number x) middle ∙ put_twice x blank s.items same))
 
     own_item : key_item s.items old.key ≡ Some old
     own_item = found_item map_number key_in bytes_eq same_bytes bytes_eq_self n s.items old (sym (keys_apart (map key_in s.items)) ∙ kept.differ) at
 
     own : AfterPut s old.key v (rising.put map_number x s.items) s.given f n (Some old.value)
-    own = subst (λ m. AfterPut s old.key v (rising.put map_number (record { number = m; key = old.key; value = v }) s.items) s.given f m (Some old.value)) number (put_at s old.key v f old kept leads own_item)
+    own = subst (λ m. AfterPut s old.key v (rising.put map_number (record { number = m; key = old.key; value = v }) s.items) s.given f m (Some old.value)) number (put_at s old.key v f old kept is.keys own_item)
 
     of_key : (key : List ℕ) → ((e : MapItem) × (key_item s.items key ≡ Some e) × (e.number ≡ n)) → map_put s key v ≡ Ok (record { items = rising.put map_number x s.items; given = s.given }, (n, Some old.value))
-    of_key key (e, found, same) =
-        let one : e ≡ old = same_Some e old (sym (item_found map_number key_in bytes_eq same_bytes bytes_eq_self 0 s.items key e kept.rises found) ∙ (ap (λ m. rising.find map_number m s.items) same ∙ at)) in
+    of_key key (e, found, is_n) =
+        let one : e ≡ old = same_Some e old (sym (item_found map_number key_in bytes_eq same_bytes bytes_eq_self 0 s.items key e kept.rises found) ∙ (ap (λ m. rising.find map_number m s.items) is_n ∙ at)) in
         let has : old.key ≡ key = rw one at (same_bytes e.key key (item_has map_number key_in bytes_eq same_bytes bytes_eq_self s.items key e found)) in
         subst (λ k. map_put s k v ≡ Ok (record { items = rising.put map_number x s.items; given = s.given }, (n, Some old.value))) has own.2
 
@@ -132,12 +140,18 @@ put_key_new next key v (x ∷ items) h = grind (arith, nat_tests, put_key_new ne
 pub left_over : (given : ℕ) → given ≤ 2147483647 → nat_lt 2147483647 given ≡ false
 left_over given few = grind (arith, nat_tests)
 
+-- what a state keeps, its index and the answer of a put of a key that isn't there
+abbrev pub AfterNew : MapState → List ℕ → Value → TextIndex → Type 0
+AfterNew s key v index =
+    let after : MapState = record { items = s.items ++ record { number = s.given; key = key; value = v } ∷ []; given = s.given + 1 } in
+    IsMapKept after × IsKeyIndex after.items index × (map_put s key v ≡ Ok (after, (s.given, None)))
+
 -- a put of a key that isn't there
-pub put_new : (s : MapState) (key : List ℕ) (v : Value) (f g : List ℕ → Option ℕ) → IsMapKept s → LeadsKeys s.items f → key_item s.items key ≡ None →
-    s.given ≤ 2147483647 → ((q : List ℕ) → g q ≡ update bytes_eq f key (Some s.given) q) →
-    AfterPut s key v (s.items ++ record { number = s.given; key = key; value = v } ∷ []) (s.given + 1) g s.given None
-put_new s key v f g kept leads absent few made =
+pub put_new : (s : MapState) (key : List ℕ) (v : Value) (old new : TextIndex) → IsMapKept s → IsKeyIndex s.items old → key_item s.items key ≡ None → s.given ≤ 2147483647 → IsWith old new key s.given → AfterNew s key v new
+put_new s key v old new kept is absent few more =
     let x : MapItem = record { number = s.given; key = key; value = v } in
+    let f = leads (key_texts s.items) old in
+    let g = update bytes_eq f key (Some s.given) in
     let same = put_key_new s.given key v s.items absent in
     let apart = keys_apart (map key_in s.items) in
     let differ = differ-push map_number key_in bytes_eq same_bytes bytes_eq_self s.items x absent (sym apart ∙ kept.differ) in (
@@ -147,16 +161,11 @@ put_new s key v f g kept leads absent few made =
         differ = keys_apart (map key_in (s.items ++ x ∷ [])) ∙ differ;
         few = omega arith;
       },
-      leads-push map_number key_in bytes_eq same_bytes bytes_eq_self s.items x f g absent leads made,
+      index_by (s.items ++ x ∷ []) new g (more_index s.items old is new x kept.below absent more) (leads-push map_number key_in bytes_eq same_bytes bytes_eq_self s.items x f g absent is.keys (λ q. refl)),
       ap (map_put_over s key v) absent
           ∙ ap (λ b. if b then Err NumbersSpent else Ok (record { items = put_key s.given key v s.items; given = s.given + 1 }, (s.given, None))) (left_over s.given few)
           ∙ ap (λ items. Ok (record { items = items; given = s.given + 1 }, (s.given, None))) same,
     )
-
--- an item that was added is taken out again
-pub put_undone : (s : MapState) (key : List ℕ) (v : Value) (after : List MapItem) → IsMapKept s →
-    after ≡ rising.remove map_number s.given (s.items ++ record { number = s.given; key = key; value = v } ∷ []) → after ≡ s.items
-put_undone s key v after kept is = is ∙ push_undone map_number key_in bytes_eq same_bytes bytes_eq_self s.items (record { number = s.given; key = key; value = v }) kept.below
 
 -- ---- an item is taken out
 
@@ -168,38 +177,54 @@ item_held s key n held kept led found =
     let same : held ≡ Some there.0 = found ∙ rw there.2 at at in
     rw same refl
 
--- the same where an item is taken out
-abbrev pub AfterRemove : MapState → List ℕ → List MapItem → (List ℕ → Option ℕ) → ℕ → Value → Type 0
-AfterRemove s key after g n v =
-    IsMapKept (record { items = after; given = s.given }) × LeadsKeys after g × (map_remove s key ≡ Ok (record { items = after; given = s.given }, (n, v)))
+-- what a state keeps, its index and the answer, where an item is taken out
+abbrev pub AfterRemove : MapState → List ℕ → List MapItem → TextIndex → ℕ → Value → Type 0
+AfterRemove s key after index n v =
+    IsMapKept (record { items = after; given = s.given }) × IsKeyIndex after index × (map_remove s key ≡ Ok (record { items = after; given = s.given }, (n, v)))
 
--- the item of the key is taken out
-taken_at : (s : MapState) (key : List ℕ) (f g : List ℕ → Option ℕ) (i : MapItem) → IsMapKept s → LeadsKeys s.items f → key_item s.items key ≡ Some i →
-    ((q : List ℕ) → g q ≡ update bytes_eq f key None q) → AfterRemove s key (filter (λ (x : MapItem). not (bytes_eq x.key key)) s.items) g i.number i.value
-taken_at s key f g i kept leads at left =
+-- the items without that of a key
+abbrev without : List ℕ → List MapItem → List MapItem
+without key items = filter (λ (x : MapItem). not (bytes_eq x.key key)) items
+
+-- what is kept without the item of the key
+kept_without : (s : MapState) (key : List ℕ) → IsMapKept s → IsMapKept (record { items = without key s.items; given = s.given })
+kept_without s key kept =
     let stays : MapItem → Bool = λ x. not (bytes_eq x.key key) in
-    let differ = differ-filter map_number key_in bytes_eq same_bytes bytes_eq_self s.items stays (sym (keys_apart (map key_in s.items)) ∙ kept.differ) in (
-      record {
-        rises = RisesFrom-filter map_number 0 stays s.items kept.rises;
-        below = IsAbove-filter map_number s.given stays s.items kept.below;
-        differ = keys_apart (map key_in (filter stays s.items)) ∙ differ;
-        few = kept.few;
-      },
-      leads-out map_number key_in bytes_eq same_bytes bytes_eq_self s.items key f g leads left,
-      ap (λ o. if_there (record { items = filter stays s.items; given = s.given }) (option_map (λ (x : MapItem). (x.number, x.value)) o)) at,
-    )
+    let differ = differ-filter map_number key_in bytes_eq same_bytes bytes_eq_self s.items stays (sym (keys_apart (map key_in s.items)) ∙ kept.differ) in
+    record {
+      rises = RisesFrom-filter map_number 0 stays s.items kept.rises;
+      below = IsAbove-filter map_number s.given stays s.items kept.below;
+      differ = keys_apart (map key_in (filter stays s.items)) ∙ differ;
+      few = kept.few;
+    }
 
 -- a removal by the number that the index tells
-pub taken_out : (s : MapState) (key : List ℕ) (f g : List ℕ → Option ℕ) (n : ℕ) (i : MapItem) (after : List MapItem) →
-    IsMapKept s → LeadsKeys s.items f → option_map map_number (key_item s.items key) ≡ Some n → Some i ≡ rising.find map_number n s.items →
-    after ≡ rising.remove map_number n s.items → ((q : List ℕ) → g q ≡ update bytes_eq f key None q) → AfterRemove s key after g n i.value
-taken_out s key f g n i after kept leads led found made left =
-    let there = item_there map_number key_in bytes_eq same_bytes bytes_eq_self s.items key n led in
-    let e = there.0 in
-    let at : rising.find map_number n s.items ≡ Some e = rw there.2 at (item_found map_number key_in bytes_eq same_bytes bytes_eq_self 0 s.items key e kept.rises there.1) in
-    let one : i ≡ e = same_Some i e (found ∙ at) in
-    let differ = sym (keys_apart (map key_in s.items)) ∙ kept.differ in
-    let out = item_out map_number key_in bytes_eq same_bytes bytes_eq_self 0 s.items key e kept.rises differ there.1 in
-    let whole = made ∙ rw there.2 at out in
-    let taken = subst (λ m. AfterRemove s key (filter (λ (x : MapItem). not (bytes_eq x.key key)) s.items) g m e.value) there.2 (taken_at s key f g e kept leads there.1 left) in
-    rw (whole, one) taken
+pub taken_out : (s : MapState) (key : List ℕ) (old new : TextIndex) (n : ℕ) (i : MapItem) (after : List MapItem) →
+    IsMapKept s → IsKeyIndex s.items old → option_map map_number (key_item s.items key) ≡ Some n → Some i ≡ rising.find map_number n s.items →
+    after ≡ rising.remove map_number n s.items → IsWithout old new key n → AfterRemove s key after new n i.value
+taken_out s key old new n i after kept is led found made less = rw whole (kept_without s key kept, index, answer)
+  where
+    f : List ℕ → Option ℕ
+    f = leads (key_texts s.items) old
+
+    there : (e : MapItem) × (key_item s.items key ≡ Some e) × (e.number ≡ n)
+    there = item_there map_number key_in bytes_eq same_bytes bytes_eq_self s.items key n led
+
+    at : rising.find map_number n s.items ≡ Some there.0
+    at = rw there.2 at (item_found map_number key_in bytes_eq same_bytes bytes_eq_self 0 s.items key there.0 kept.rises there.1)
+
+    out : rising.remove map_number n s.items ≡ without key s.items
+    out = rw there.2 at (item_out map_number key_in bytes_eq same_bytes bytes_eq_self 0 s.items key there.0 kept.rises (sym (keys_apart (map key_in s.items)) ∙ kept.differ) there.1)
+
+    whole : after ≡ without key s.items
+    whole = made ∙ out
+
+    index : IsKeyIndex (without key s.items) new
+    index =
+        let g = update bytes_eq f key None in
+        index_by (without key s.items) new g (rw out at (less_index s.items old is new key n led less)) (leads-out map_number key_in bytes_eq same_bytes bytes_eq_self s.items key f g is.keys (λ q. refl))
+
+    answer : map_remove s key ≡ Ok (record { items = without key s.items; given = s.given }, (n, i.value))
+    answer =
+        ap (λ o. if_there (record { items = without key s.items; given = s.given }) (option_map (λ (x : MapItem). (x.number, x.value)) o)) (there.1 ∙ (sym at ∙ sym found))
+        ∙ ap (λ m. Ok (record { items = without key s.items; given = s.given }, (m, i.value))) (find_key map_number n s.items i (sym found))

@@ -1,5 +1,5 @@
 -- The items of a set while values are added and taken out.
-use Rattle.std.proofs.Common.{◌≡◌, ℕ, ◌+◌, ◌≤◌, Bool, true, false, not, List, [], ◌∷◌, ◌++◌, map, filter, Option, Some, None, Ok, Err, is_some, option_map, refl, sym, ap, subst, ◌∙◌, zero-le, arith}
+use Rattle.std.proofs.Common.{◌≡◌, ℕ, ◌+◌, ◌≤◌, Bool, true, false, not, List, [], ◌∷◌, ◌++◌, map, filter, Option, Some, None, Ok, Err, is_some, option_map, refl, sym, ap, ◌∙◌, zero-le, arith}
 use Rattle.std.specs.Bool.{nat_lt}
 use Rattle.std.specs.Map.{update}
 use Rattle.std.proofs.lemmas.Bool.Decides.{nat_tests}
@@ -11,8 +11,11 @@ use Rattle.state_model.specs.Values.{same_value}
 use Rattle.state_model.specs.Sound.{differ}
 use Rattle.state_model.specs.Commands.{has_value}
 use Rattle.collection_ops.specs.declared.fault.ItemFault.TheVariants.{Present, NumbersSpent}
-use Rattle.collection_ops.specs.Bodies.{SetState, set_number, value_item, if_there, set_add, set_remove, IsSetKept, LeadsValues}
-use Rattle.collection_ops.proofs.Indexed.{all_differ, item_there, leads-push, differ-push, push_undone, item_out, leads-out, differ-filter}
+use Rattle.collection_ops.specs.Bodies.{SetState, set_number, value_item, if_there, set_add, set_remove, IsSetKept}
+use Rattle.collection_ops.specs.Indexes.{value_number, IsWithValue, IsWithoutValue, IsValueIndex}
+use Rattle.collection_ops.specs.declared.value_index.ValueIndex.{ValueIndex}
+use Rattle.collection_ops.proofs.SetIndex.{index_by, more_index, less_index}
+use Rattle.collection_ops.proofs.Indexed.{all_differ, item_has, item_found, item_there, leads-push, differ-push, item_out, leads-out, differ-filter}
 use Rattle.state_laws.proofs.SameValues.{same_is, same_self}
 
 -- the value of an item
@@ -55,17 +58,18 @@ not_there items v none = any_item items v ∙ ap (λ o. is_some (option_map set_
 pub add_spent : (s : SetState) (v : Value) → value_item s.items v ≡ None → nat_lt 2147483647 s.given ≡ true → set_add s v ≡ Err NumbersSpent
 add_spent s v none spent = rw (not_there s.items v none, spent) refl
 
--- what a state keeps, an index and the answer of a call
-abbrev pub AfterAdd : SetState → Value → (Value → Option ℕ) → Type 0
-AfterAdd s v g =
+-- what a state keeps, its index and the answer of a call
+abbrev pub AfterAdd : SetState → Value → ValueIndex → Type 0
+AfterAdd s v index =
     let after : SetState = record { items = s.items ++ record { number = s.given; value = v } ∷ []; given = s.given + 1 } in
-    IsSetKept after × LeadsValues after.items g × (set_add s v ≡ Ok (after, s.given))
+    IsSetKept after × IsValueIndex after.items index × (set_add s v ≡ Ok (after, s.given))
 
 -- a value that isn't there is added
-pub added : (s : SetState) (v : Value) (f g : Value → Option ℕ) → IsSetKept s → LeadsValues s.items f → value_item s.items v ≡ None → nat_lt 2147483647 s.given ≡ false →
-    ((q : Value) → g q ≡ update same_value f v (Some s.given) q) → AfterAdd s v g
-added s v f g kept leads none left made =
+pub added : (s : SetState) (v : Value) (old new : ValueIndex) → IsSetKept s → IsValueIndex s.items old → value_item s.items v ≡ None → nat_lt 2147483647 s.given ≡ false → IsWithValue old new v s.given → AfterAdd s v new
+added s v old new kept is none left more =
     let x : SetItem = record { number = s.given; value = v } in
+    let f = value_number s.items old in
+    let g = update same_value f v (Some s.given) in
     let few : s.given ≤ 2147483647 = grind (arith, nat_tests) in
     let differ = differ-push set_number value_in same_value same_is same_self s.items x none (sym (values_apart (map value_in s.items)) ∙ kept.differ) in (
       record {
@@ -74,47 +78,61 @@ added s v f g kept leads none left made =
         differ = values_apart (map value_in (s.items ++ x ∷ [])) ∙ differ;
         few = omega arith;
       },
-      leads-push set_number value_in same_value same_is same_self s.items x f g none leads made,
+      index_by (s.items ++ x ∷ []) new g (more_index s.items old is new v s.given kept.below none more) (leads-push set_number value_in same_value same_is same_self s.items x f g none is.values (λ q. refl)),
       rw (not_there s.items v none, left) refl,
     )
 
--- an item that was added is taken out again
-pub add_undone : (s : SetState) (v : Value) (after : List SetItem) → IsSetKept s →
-    after ≡ rising.remove set_number s.given (s.items ++ record { number = s.given; value = v } ∷ []) → after ≡ s.items
-add_undone s v after kept is = is ∙ push_undone set_number value_in same_value same_is same_self s.items (record { number = s.given; value = v }) kept.below
-
 -- ---- an item is taken out
 
--- the same where an item is taken out
-abbrev pub AfterRemove : SetState → Value → List SetItem → (Value → Option ℕ) → ℕ → Type 0
-AfterRemove s v after g n =
-    IsSetKept (record { items = after; given = s.given }) × LeadsValues after g × (set_remove s v ≡ Ok (record { items = after; given = s.given }, n))
+-- what a state keeps, its index and the answer, where an item is taken out
+abbrev pub AfterRemove : SetState → Value → List SetItem → ValueIndex → ℕ → Type 0
+AfterRemove s v after index n =
+    IsSetKept (record { items = after; given = s.given }) × IsValueIndex after index × (set_remove s v ≡ Ok (record { items = after; given = s.given }, n))
 
--- the item of the value is taken out
-taken_at : (s : SetState) (v : Value) (f g : Value → Option ℕ) (i : SetItem) → IsSetKept s → LeadsValues s.items f → value_item s.items v ≡ Some i →
-    ((q : Value) → g q ≡ update same_value f v None q) → AfterRemove s v (filter (λ (x : SetItem). not (same_value x.value v)) s.items) g i.number
-taken_at s v f g i kept leads at left =
+-- the items without that of a value
+abbrev without : Value → List SetItem → List SetItem
+without v items = filter (λ (x : SetItem). not (same_value x.value v)) items
+
+-- what is kept without the item of the value
+kept_without : (s : SetState) (v : Value) → IsSetKept s → IsSetKept (record { items = without v s.items; given = s.given })
+kept_without s v kept =
     let stays : SetItem → Bool = λ x. not (same_value x.value v) in
-    let differ = differ-filter set_number value_in same_value same_is same_self s.items stays (sym (values_apart (map value_in s.items)) ∙ kept.differ) in (
-      record {
-        rises = RisesFrom-filter set_number 0 stays s.items kept.rises;
-        below = IsAbove-filter set_number s.given stays s.items kept.below;
-        differ = values_apart (map value_in (filter stays s.items)) ∙ differ;
-        few = kept.few;
-      },
-      leads-out set_number value_in same_value same_is same_self s.items v f g leads left,
-      ap (λ o. if_there (record { items = filter stays s.items; given = s.given }) (option_map (λ (x : SetItem). x.number) o)) at,
-    )
+    let differ = differ-filter set_number value_in same_value same_is same_self s.items stays (sym (values_apart (map value_in s.items)) ∙ kept.differ) in
+    record {
+      rises = RisesFrom-filter set_number 0 stays s.items kept.rises;
+      below = IsAbove-filter set_number s.given stays s.items kept.below;
+      differ = values_apart (map value_in (filter stays s.items)) ∙ differ;
+      few = kept.few;
+    }
 
 -- a removal by the number that the index tells
-pub taken_out : (s : SetState) (v : Value) (f g : Value → Option ℕ) (n : ℕ) (after : List SetItem) →
-    IsSetKept s → LeadsValues s.items f → option_map set_number (value_item s.items v) ≡ Some n →
-    after ≡ rising.remove set_number n s.items → ((q : Value) → g q ≡ update same_value f v None q) → AfterRemove s v after g n
-taken_out s v f g n after kept leads led made left =
-    let there = item_there set_number value_in same_value same_is same_self s.items v n led in
-    let e = there.0 in
-    let differ = sym (values_apart (map value_in s.items)) ∙ kept.differ in
-    let out = item_out set_number value_in same_value same_is same_self 0 s.items v e kept.rises differ there.1 in
-    let whole = made ∙ rw there.2 at out in
-    let taken = subst (λ m. AfterRemove s v (filter (λ (x : SetItem). not (same_value x.value v)) s.items) g m) there.2 (taken_at s v f g e kept leads there.1 left) in
-    rw whole taken
+pub taken_out : (s : SetState) (v : Value) (old new : ValueIndex) (n : ℕ) (after : List SetItem) →
+    IsSetKept s → IsValueIndex s.items old → option_map set_number (value_item s.items v) ≡ Some n →
+    after ≡ rising.remove set_number n s.items → IsWithoutValue old new v n → AfterRemove s v after new n
+taken_out s v old new n after kept is led made less = rw whole (kept_without s v kept, index, answer)
+  where
+    there : (e : SetItem) × (value_item s.items v ≡ Some e) × (e.number ≡ n)
+    there = item_there set_number value_in same_value same_is same_self s.items v n led
+
+    at : rising.find set_number n s.items ≡ Some there.0
+    at = rw there.2 at (item_found set_number value_in same_value same_is same_self 0 s.items v there.0 kept.rises there.1)
+
+    holds : there.0.value ≡ v
+    holds = same_is there.0.value v (item_has set_number value_in same_value same_is same_self s.items v there.0 there.1)
+
+    out : rising.remove set_number n s.items ≡ without v s.items
+    out = rw there.2 at (item_out set_number value_in same_value same_is same_self 0 s.items v there.0 kept.rises (sym (values_apart (map value_in s.items)) ∙ kept.differ) there.1)
+
+    whole : after ≡ without v s.items
+    whole = made ∙ out
+
+    index : IsValueIndex (without v s.items) new
+    index =
+        let f = value_number s.items old in
+        let g = update same_value f v None in
+        index_by (without v s.items) new g (rw out at (less_index s.items old is new v n there.0 led at holds less)) (leads-out set_number value_in same_value same_is same_self s.items v f g is.values (λ q. refl))
+
+    answer : set_remove s v ≡ Ok (record { items = without v s.items; given = s.given }, n)
+    answer =
+        ap (λ o. if_there (record { items = without v s.items; given = s.given }) (option_map (λ (x : SetItem). x.number) o)) there.1
+        ∙ ap (λ m. Ok (record { items = without v s.items; given = s.given }, m)) there.2

@@ -1,7 +1,9 @@
 ghost use Rattle.std.specs.Prelude.{◌≡◌, ℕ, List, [], length, map, option_map, slice_get, Some, None, Ok, IfOk, option_copied};
 ghost use Rattle.lists.specs.Rising.{RisesFrom, after_key, find};
 ghost use Rattle.state_model.specs.declared.row.MapItem.{MapItem};
+ghost use Rattle.trees.specs.Texts.{text_hash, has_text, IsWithout};
 ghost use Rattle.collection_ops.specs.Bodies.{MapState, map_number, key_item, map_put, map_remove, Gives, Exactly, IsMapKept};
+ghost use Rattle.collection_ops.specs.Indexes.{key_texts};
 
 use crate::fault::ItemFault;
 use lists::{Memory, Text};
@@ -9,7 +11,7 @@ use schema_model::{LAST_NUMBER, Value};
 use state_model::{MapItem, MapItems};
 use std::alloc::Global;
 use std::marker::Model;
-use trees::{Numbered, TextIndex};
+use trees::{Numbered, TextIndex, text_hash};
 
 /// The items of a map, found by number and by key. A call takes logarithmic time, but for
 /// `number_at`, `clear` and `copy_items`; `after` passes over what was taken out in front of what it answers.
@@ -17,21 +19,21 @@ use trees::{Numbered, TextIndex};
 pub struct MapBody {
     alloc: Global,
     items: Numbered<MapItem>,
-    // The number of the item of each key.
+    // Where the item of each key is. A key stands once, in its item, but for few.
     index: TextIndex,
     // How many numbers were given.
     given: u32,
 }
 
 impl Model for MapBody {
-    ghost use Rattle.trees.specs.Texts.{text_number};
-    ghost use Rattle.collection_ops.specs.Bodies.{MapState, IsMapKept, LeadsKeys};
+    ghost use Rattle.collection_ops.specs.Bodies.{MapState, IsMapKept};
+    ghost use Rattle.collection_ops.specs.Indexes.{IsKeyIndex};
 
     ghost Value = { MapState };
 
     ghost view = { λ b. record { items = b.items; given = b.given } };
 
-    ghost invariant = { λ b. IsMapKept (record { items = b.items; given = b.given }) × LeadsKeys b.items (text_number b.index) };
+    ghost invariant = { λ b. IsMapKept (record { items = b.items; given = b.given }) × IsKeyIndex b.items b.index };
 }
 
 impl MapBody {
@@ -55,10 +57,16 @@ impl MapBody {
 
     /// How many item numbers were given: the next new item gets this one.
     pub fn given(&self) -> u32
-        ensures value { result ≡ self.now.given }
-        ensures kept { IsMapKept self.now }
+        ensures { result ≡ self.now.given }
     {
         self.given
+    }
+
+    /// The items rise by their numbers, and no key stands twice. It does nothing else than to say so.
+    pub fn know_kept(&self)
+        ensures { IsMapKept self.now }
+    {
+        let _ = &self.items;
     }
 
     /// The value under an item number.
@@ -96,7 +104,11 @@ impl MapBody {
     pub fn number_of(&self, key: &str) -> Option<u32>
         ensures { result ≡ option_map map_number (key_item self.now.items key.now) }
     {
-        self.index.get(key)
+        let first = self.index.under(text_hash(key));
+        if has_key(&self.items, first, key) {
+            return first;
+        }
+        self.index.by_itself(key)
     }
 
     /// Puts a value under a key. Answers the item's number, and the value that it had.
@@ -155,15 +167,15 @@ impl MapBody {
             return Err(ItemFault::NumbersSpent);
         }
         let number = self.given;
-        let text = key.copy(self.alloc)?.into_string();
-        self.items.push(MapItem { number, key, value })?;
-        match self.index.put(text, number) {
-            Ok(_) => {
+        let hash = text_hash(key.as_str());
+        self.index.put(self.alloc, hash, key.as_str(), number)?;
+        match self.items.push_or_return(MapItem { number, key, value }) {
+            Ok(()) => {
                 self.given += 1;
                 Ok((number, None))
             }
-            Err(_) => {
-                self.items.remove(number);
+            Err(item) => {
+                take_back(&mut self.index, hash, item);
                 Err(ItemFault::Memory)
             }
         }
@@ -184,7 +196,7 @@ impl MapBody {
         requires { option_map map_number (key_item self.old.items key.now) ≡ Some number }
         ensures { Exactly (map_remove self.old key.now) self.old self.new result }
     {
-        self.index.remove(key);
+        self.index.remove(text_hash(key), key, number);
         let item = self.items.remove(number).unwrap();
         Ok((number, item.value))
     }
@@ -209,4 +221,25 @@ impl MapBody {
         }
         Ok(out)
     }
+}
+
+// The item of a number that was found has this key.
+fn has_key(items: &Numbered<MapItem>, number: Option<u32>, key: &str) -> bool
+    ensures { result ≡ has_text (key_texts items.now) key.now number }
+{
+    let Some(number) = number else {
+        return false;
+    };
+    match items.get(number) {
+        Some(item) => item.key.as_str() == key,
+        None => false,
+    }
+}
+
+// Takes the key of an item out of an index.
+fn take_back(index: &mut TextIndex, hash: u32, item: MapItem)
+    requires { hash ≡ text_hash item.key }
+    ensures { IsWithout index.old index.new item.key item.number }
+{
+    index.remove(hash, item.key.as_str(), item.number);
 }

@@ -2,6 +2,7 @@ ghost use Rattle.std.specs.Prelude.{◌≡◌, [], length, map, option_map, slic
 ghost use Rattle.lists.specs.Rising.{RisesFrom, after_key, find};
 ghost use Rattle.state_model.specs.declared.row.SetItem.{SetItem};
 ghost use Rattle.collection_ops.specs.Bodies.{SetState, set_number, value_item, set_add, set_remove, Gives, Exactly, IsSetKept};
+ghost use Rattle.collection_ops.specs.Indexes.{IsWithoutValue};
 
 use crate::fault::ItemFault;
 use crate::value_index::ValueIndex;
@@ -18,21 +19,21 @@ use trees::Numbered;
 pub struct SetBody {
     alloc: Global,
     items: Numbered<SetItem>,
-    // The number of the item of each value.
+    // Where the item of each value is. A text stands once, in its item, but for few.
     index: ValueIndex,
     // How many numbers were given.
     given: u32,
 }
 
 impl Model for SetBody {
-    ghost use Rattle.collection_ops.specs.Bodies.{SetState, IsSetKept, LeadsValues};
-    ghost use Rattle.collection_ops.specs.Indexes.{value_number};
+    ghost use Rattle.collection_ops.specs.Bodies.{SetState, IsSetKept};
+    ghost use Rattle.collection_ops.specs.Indexes.{IsValueIndex};
 
     ghost Value = { SetState };
 
     ghost view = { λ b. record { items = b.items; given = b.given } };
 
-    ghost invariant = { λ b. IsSetKept (record { items = b.items; given = b.given }) × LeadsValues b.items (value_number b.index) };
+    ghost invariant = { λ b. IsSetKept (record { items = b.items; given = b.given }) × IsValueIndex b.items b.index };
 }
 
 impl SetBody {
@@ -56,10 +57,16 @@ impl SetBody {
 
     /// How many item numbers were given: the next new item gets this one.
     pub fn given(&self) -> u32
-        ensures value { result ≡ self.now.given }
-        ensures kept { IsSetKept self.now }
+        ensures { result ≡ self.now.given }
     {
         self.given
+    }
+
+    /// The items rise by their numbers, and no value stands twice. It does nothing else than to say so.
+    pub fn know_kept(&self)
+        ensures { IsSetKept self.now }
+    {
+        let _ = &self.items;
     }
 
     /// The value under an item number.
@@ -89,7 +96,7 @@ impl SetBody {
     pub fn number_of(&self, value: &Value) -> Option<u32>
         ensures { result ≡ option_map set_number (value_item self.now.items value.now) }
     {
-        self.index.get(value)
+        self.index.get(&self.items, value)
     }
 
     /// Adds an item with a value that isn't there. Answers its number.
@@ -111,15 +118,14 @@ impl SetBody {
             return Err(ItemFault::NumbersSpent);
         }
         let number = self.given;
-        let copy = value.copy(self.alloc)?;
-        self.items.push(SetItem { number, value })?;
-        match self.index.put(copy, number) {
-            Ok(_) => {
+        self.index.put(self.alloc, &value, number)?;
+        match self.items.push_or_return(SetItem { number, value }) {
+            Ok(()) => {
                 self.given += 1;
                 Ok(number)
             }
-            Err(_) => {
-                self.items.remove(number);
+            Err(item) => {
+                take_back(&mut self.index, item);
                 Err(ItemFault::Memory)
             }
         }
@@ -140,7 +146,7 @@ impl SetBody {
         requires { option_map set_number (value_item self.old.items value.now) ≡ Some number }
         ensures { Exactly (set_remove self.old value.now) self.old self.new result }
     {
-        self.index.remove(value);
+        self.index.remove(value, number);
         self.items.remove(number);
         Ok(number)
     }
@@ -165,4 +171,11 @@ impl SetBody {
         }
         Ok(out)
     }
+}
+
+// Takes the value of an item out of an index.
+fn take_back(index: &mut ValueIndex, item: SetItem)
+    ensures { IsWithoutValue index.old index.new item.value item.number }
+{
+    index.remove(&item.value, item.number);
 }

@@ -1,5 +1,5 @@
 -- Walks back along holders: what they get to is what reaches their start.
-use Rattle.std.proofs.Common.{◌≡◌, ◌∙◌, ℕ, suc, Bool, true, false, not, ◌==◌, List, [], ◌∷◌, ◌++◌, ◌||◌, map, Option, Some, None, is_some, refl, sym, ap, arith}
+use Rattle.std.proofs.Common.{◌≡◌, ◌∙◌, ℕ, suc, Bool, true, false, not, ◌==◌, List, [], ◌∷◌, ◌++◌, ◌||◌, map, Option, Some, None, is_some, refl, sym, ap, subst, arith}
 use Rattle.std.specs.List.{flat_map}
 use Rattle.std.specs.Option.{option_map, option_map_or}
 use Rattle.std.proofs.lemmas.Bool.Decides.{nat_tests}
@@ -27,7 +27,7 @@ use Rattle.instance_table.specs.Table.{IsExact}
 use Rattle.instance_table.specs.Ways.{back_row, rows_along}
 use Rattle.instance_table.proofs.RefusalLaws.{dead_where}
 use Rattle.instance_table.proofs.StateLaws.{held_found, rows_rise}
-use Rattle.plain_rows.proofs.Walks.{Walked, row_held}
+use Rattle.plain_rows.proofs.Walks.{Walked, row_held, walk_end, walk_on, walk_start}
 use Rattle.state_laws.proofs.Numbers.{among_with_number}
 use Rattle.state_model.specs.Reached.{with_number}
 
@@ -146,6 +146,13 @@ pub reached_back : (schema : Schema) (es : List (ℕ × Node)) (from to : ℕ) �
 reached_back schema es from to rise sound exact = both_ways (is_among from (reached (map back_row es) to)) (is_among to (reached (rows_in es) from))
     (λ h. reached_least (map back_row es) to (λ n. is_among to (reached (rows_in es) n)) (back_rise 0 es rise) (reached_start (rows_in es) to) (λ a b r k s t. back_step es to a b r rise exact k s t) from h)
     (λ h. reached_least (rows_in es) from (λ n. is_among from (reached (map back_row es) n)) (rows_rise 0 es rise) (reached_start (map back_row es) from) (λ a b r k s t. on_step schema es from a b r rise sound exact k s t) to h)
+
+-- from a row that leads nowhere no other is reached
+pub reached_alone : (rows : List RowEntry) (start end : ℕ) → RisesFrom number_of 0 rows → held_at rows start ≡ [] → (start == end) ≡ false → false ≡ is_among end (reached rows start)
+reached_alone rows start end rise none apart =
+    let walked : Walked rows start (with_number [] start) [] = subst (Walked rows start (with_number [] start)) none (walk_on rows start [] (start ∷ []) [] start rise (walk_start rows start) refl) in
+    let all : with_number [] start ≡ reached rows start = walk_end rows start (with_number [] start) [] rise walked refl in
+    sym (ap (is_among end) (sym all) ∙ still_unseen end start [] refl apart)
 
 -- the nodes rise as their rows do
 pub nodes_rise : (low : ℕ) (es : List (ℕ × Node)) → RisesFrom number_of low (rows_in es) → RisesFrom nodes.number_of low es

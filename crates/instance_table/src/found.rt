@@ -43,7 +43,7 @@ fn by_key<'a>(items: &'a MapBody, key: &'a Text) -> Found<'a>
     ensures number { result.number ≡ option_map map_number (key_item items.now.items key.now) }
     ensures value { option_copied result.value ≡ option_map (λ i. i.value) (key_item items.now.items key.now) }
 {
-    items.given();
+    items.know_kept();
     match items.number_of(key.as_str()) {
         Some(number) => Found {
             absent: false,

@@ -11,7 +11,8 @@ ghost use Rattle.instance_table.specs.Nodes.{at_node, held_less, held_more, held
 
 use crate::holding;
 use crate::node::Node;
-use lists::search;
+use crate::plan::Spot;
+use lists::{search, search_near};
 use schema_model::{Memory, RefNum};
 use state_model::{Command, RowEntry, Rows};
 use std::alloc::Global;
@@ -57,6 +58,25 @@ impl Nodes {
         ensures { option_copied result ≡ node_at self.now who }
     {
         match search(self.slots.as_slice(), who.0) {
+            Ok(at) => self.slots[at].item.as_ref(),
+            Err(_) => None,
+        }
+    }
+
+    /// Where the row of a number stands, if there is one. It is looked for here once: what is given this place finds the row
+    /// at once.
+    pub fn place(&self, who: RefNum) -> usize {
+        match search(self.slots.as_slice(), who.0) {
+            Ok(at) => at,
+            Err(at) => at,
+        }
+    }
+
+    /// The row of a number, which is thought to stand at a place.
+    pub fn get_near(&self, place: usize, who: RefNum) -> Option<&Node>
+        ensures { option_copied result ≡ node_at self.now who }
+    {
+        match search_near(self.slots.as_slice(), place, who.0) {
             Ok(at) => self.slots[at].item.as_ref(),
             Err(_) => None,
         }
@@ -111,18 +131,18 @@ impl Nodes {
         alloc: Global,
         who: RefNum,
         command: &Command,
-        number: Option<u32>,
+        spot: &Spot,
     ) -> Result<(), Memory>
-        requires number { IfSome (node_at self.old who) (λ n. number ≡ item_number command.now (row_of n.body)) }
+        requires number { IfSome (node_at self.old who) (λ n. spot.now.number ≡ item_number command.now (row_of n.body)) }
         requires can { IfSome (node_at self.old who) (λ n. CanEdit command.now n.body) }
         ensures after { self.new ≡ (if is_ok result then at_node who (edited_node command.now) self.old else self.old) }
         ensures sure { takes_out command.now ≡ true → is_ok result ≡ true }
         ensures rises { RisesFrom number_of 0 self.old }
     {
-        let Ok(at) = search(self.slots.as_slice(), who.0) else {
+        let Ok(at) = search_near(self.slots.as_slice(), spot.place, who.0) else {
             return Ok(());
         };
-        holding::edit(&mut self.slots[at], alloc, command, number)
+        holding::edit(&mut self.slots[at], alloc, command, spot.number)
     }
 
     /// All rows, each with its number.

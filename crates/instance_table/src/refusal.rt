@@ -24,12 +24,12 @@ use crate::graph::Graph;
 use crate::links::link_of;
 use crate::nodes::Nodes;
 use crate::parts::{holder_of, value_put};
-use crate::plan::{Plan, Verdict};
+use crate::plan::{Plan, Spot, Verdict};
 use crate::totals::Totals;
 use crate::typed::type_cause;
 use crate::walk::reaches;
 use schema_model::{LAST_NUMBER, Memory, RefNum, Schema, Value};
-use state_model::{Command, TableFault, Wanted, is_filtered, know_texts};
+use state_model::{Command, TableFault, Wanted, is_filtered};
 use std::alloc::Global;
 
 /// How many rows a room may have.
@@ -235,17 +235,25 @@ fn judge_make(rows: usize, given: u32) -> Verdict
     Verdict::Makes
 }
 
-// The row that a command changes.
-fn body_for<'a>(nodes: &'a Nodes, command: &Command) -> Option<&'a Body>
+// Where the row that a command changes stands, if there is one.
+fn place_for(nodes: &Nodes, command: &Command) -> usize {
+    match holder_of(command) {
+        Some(holder) => nodes.place(holder),
+        None => 0,
+    }
+}
+
+// The row that a command changes, which is thought to stand at a place.
+fn body_for<'a>(nodes: &'a Nodes, place: usize, command: &Command) -> Option<&'a Body>
     ensures body { option_copied result ≡ option_map (λ n. n.body) (option_and_then (node_at nodes.now) (holder_of command.now)) }
     ensures row { option_map row_of (option_copied result) ≡ row_for (rows_in nodes.now) command.now }
 {
-    let node = nodes.get(holder_of(command)?)?;
+    let node = nodes.get_near(place, holder_of(command)?)?;
     Some(&node.body)
 }
 
 // What a command that isn't refused does to a row.
-fn plan(totals: Totals, command: &Command, body: &Body, found: &Found<'_>) -> Plan
+fn plan(place: usize, totals: Totals, command: &Command, body: &Body, found: &Found<'_>) -> Plan
     requires absent { found.now.absent ≡ is_absent command.now (row_of body.now) }
     requires number { found.now.number ≡ item_number command.now (row_of body.now) }
     requires value { option_copied found.now.value ≡ replaced command.now (row_of body.now) }
@@ -255,7 +263,10 @@ fn plan(totals: Totals, command: &Command, body: &Body, found: &Found<'_>) -> Pl
     ensures { IsPlanned command.now (row_of body.now) totals.places totals.text result }
 {
     Plan {
-        number: found.number,
+        spot: Spot {
+            place,
+            number: found.number,
+        },
         before: link_of(found.value),
         totals: totals.after(command, body, found),
     }
@@ -274,9 +285,9 @@ pub fn judge(
     ensures value { IfOk result (λ v. IsJudged schema.now graph.now.nodes given totals.places totals.text command.now v) }
     ensures sure { takes_out command.now ≡ true → is_ok result ≡ true }
 {
-    know_texts(command);
     let nodes = graph.nodes();
-    let body = body_for(nodes, command);
+    let place = place_for(nodes, command);
+    let body = body_for(nodes, place, command);
     if is_no_ref(nodes, command, body) {
         return Ok(Verdict::Refused(TableFault::NoRef));
     }
@@ -297,5 +308,5 @@ pub fn judge(
     if let Some(fault) = limit_cause(totals, command, body, &found) {
         return Ok(Verdict::Refused(fault));
     }
-    Ok(Verdict::Changes(holder, plan(totals, command, body, &found)))
+    Ok(Verdict::Changes(holder, plan(place, totals, command, body, &found)))
 }

@@ -109,11 +109,11 @@ impl Table {
             },
             Verdict::Changes(holder, plan) => {
                 let Plan {
-                    number,
+                    spot,
                     before,
                     totals,
                 } = plan;
-                match change(&mut self.graph, self.alloc, holder, command, number, before) {
+                match change(&mut self.graph, self.alloc, holder, command, &spot, before) {
                     Ok(()) => {
                         self.totals = totals;
                         Ok(None)

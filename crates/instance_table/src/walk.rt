@@ -1,5 +1,5 @@
 //! Whether a row reaches another.
-ghost use Rattle.std.specs.Prelude.{◌≡◌, ◌++◌, ℕ, true, false, IfOk, OnOk};
+ghost use Rattle.std.specs.Prelude.{◌≡◌, ◌++◌, [], ℕ, true, false, IfOk, OnOk};
 ghost use Rattle.state_model.specs.Reached.{is_among, reached};
 ghost use Rattle.state_model.specs.Sound.{are_sound};
 ghost use Rattle.schema_model.specs.Classes.{Schema};
@@ -57,10 +57,43 @@ fn turn(
     Ok(None)
 }
 
-/// Whether one row reaches another by way of links. It walks from both ends, a row of each in turn, along the links from
-/// the one and along the holders from the other, until it gets to the other end or one side is spent. It looks once at
-/// each place and each holder of the rows that it comes to, and at no others.
+// Whether a way leads nowhere from the row of a number, as is seen at once.
+fn is_end(nodes: &Nodes, way: Way, who: RefNum) -> bool
+    ensures { result ≡ true → held_at (rows_along way nodes.now) who ≡ [] }
+{
+    let Some(node) = nodes.get(who) else {
+        return true;
+    };
+    match way {
+        Way::Links => node.body.len() == 0,
+        Way::Holders => node.holders.len() == 0,
+    }
+}
+
+/// Whether one row reaches another by way of links. Where the one holds nothing, or nothing holds the other, that is
+/// answered at once. Else it walks from both ends, a row of each in turn, along the links from the one and along the
+/// holders from the other, until it gets to the other end or one side is spent. It looks once at each place and each
+/// holder of the rows that it comes to, and at no others.
 pub fn reaches(alloc: Global, nodes: &Nodes, from: RefNum, to: RefNum) -> Result<bool, Memory>
+    requires sound { (schema : Schema) × (are_sound schema (rows_in nodes.now) ≡ true) }
+    requires exact { IsExact nodes.now }
+    ensures { IfOk result (λ found. found ≡ is_among to (reached (rows_in nodes.now) from)) }
+{
+    nodes.know_rising();
+    if from == to {
+        return Ok(true);
+    }
+    if is_end(nodes, Way::Holders, to) {
+        return Ok(false);
+    }
+    if is_end(nodes, Way::Links, from) {
+        return Ok(false);
+    }
+    meets(alloc, nodes, from, to)
+}
+
+// The same, by walking from both ends.
+fn meets(alloc: Global, nodes: &Nodes, from: RefNum, to: RefNum) -> Result<bool, Memory>
     requires sound { (schema : Schema) × (are_sound schema (rows_in nodes.now) ≡ true) }
     requires exact { IsExact nodes.now }
     ensures { IfOk result (λ found. found ≡ is_among to (reached (rows_in nodes.now) from)) }

@@ -10,7 +10,7 @@ pub mod text;
 
 pub use bytes::Bytes;
 pub use memory::Memory;
-pub use rising::{Keyed, Rising, place_after, search};
+pub use rising::{Keyed, Rising, place_after, search, search_near};
 pub use room::make_room;
 pub use seq::Seq;
 pub use text::{Text, TextFault};

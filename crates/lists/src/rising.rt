@@ -144,6 +144,18 @@ pub fn search<T: Keyed>(items: &[T], key: u32) -> Result<usize, usize>
     items.binary_search_by_key(&key, |item| item.key())
 }
 
+/// The same. It looks first at a place where the item is thought to stand.
+pub fn search_near<T: Keyed>(items: &[T], place: usize, key: u32) -> Result<usize, usize>
+    requires { RisesFrom T.key 0 items.now }
+    ensures found { IfOk result (λ at. (at < length items.now) × HoldsAt (λ e. T.key e ≡ key) items.now at) }
+    ensures missing { IfErr result (λ at. (at ≤ length items.now) × IsAbove T.key key (take at items.now) × RisesFrom T.key (suc key) (drop at items.now)) }
+{
+    if let Some(at) = at_place(items, place, key) {
+        return Ok(at);
+    }
+    search(items, key)
+}
+
 /// Where the first item stands, or the first behind a key.
 pub fn place_after<T: Keyed>(items: &[T], key: Option<u32>) -> usize
     requires { RisesFrom T.key 0 items.now }
@@ -173,6 +185,13 @@ fn guessed<T: Keyed>(items: &[T], key: u32) -> Option<usize>
 {
     let first = items.first()?;
     let at = key.checked_sub(first.key())? as usize;
+    at_place(items, at, key)
+}
+
+// This place, if the item there has this key.
+fn at_place<T: Keyed>(items: &[T], at: usize, key: u32) -> Option<usize>
+    ensures { IfSome result (λ at. (at < length items.now) × HoldsAt (λ e. T.key e ≡ key) items.now at) }
+{
     let item = items.get(at)?;
     if item.key() == key { Some(at) } else { None }
 }

@@ -17,7 +17,10 @@ use lists::{Memory, Text};
 use scalar_codec::get_text;
 use schema_model::{Home, Item, RefNum, Schema, Shape};
 use state_model::{Wanted, item_wants};
-use wire_model::codes::{ADD, ADD_BY_REF, CLEAR, DELETE, DELETE_AND_ADD, DELETE_BY_REF, REPLACE};
+use wire_model::codes::{
+    ADD, ADD_BY_REF, CLEAR, DELETE, DELETE_AND_ADD, DELETE_AND_MOVE, DELETE_BY_REF, MOVE,
+    MOVE_AND_ADD, REPLACE, REVERSE,
+};
 use wire_model::{Op, OpFault, OpKey, Step};
 
 /// An operation on a collection of a home, whose byte stands at a place.
@@ -34,7 +37,7 @@ pub fn read_item_op<K: Known>(
     match code {
         CLEAR => Ok((Step::Do(Op::Clear), at + 1)),
         // Those that move or reverse arrays.
-        15 | 32 | 96 | 160 => Err(OpFault::Unsupported(at, code)),
+        REVERSE | MOVE | DELETE_AND_MOVE | MOVE_AND_ADD => Err(OpFault::Unsupported(at, code)),
         REPLACE | DELETE | ADD | DELETE_AND_ADD => read_numbered(from, home, at, code),
         DELETE_BY_REF => read_delete_by_ref(from.schema, home, from.bytes, at),
         ADD_BY_REF => read_add_by_ref(from, home, at),

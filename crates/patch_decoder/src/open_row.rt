@@ -1,10 +1,8 @@
 //! A row that is open: operations are done to it.
-ghost use Rattle.std.specs.Prelude.{◌≡◌, [], false, OnOk, IfOk};
+ghost use Rattle.std.specs.Prelude.{◌≡◌, [], IfOk};
 ghost use Rattle.wire_model.specs.Effect.{Fields, opened, closed, effect, finds};
 ghost use Rattle.wire_ops.specs.PlainEdits.{plain_edit};
 ghost use Rattle.patch_decoder.specs.Drafts.{row_of};
-ghost use Rattle.wire_ops.specs.Bodies.{body_of};
-ghost use Rattle.patch_decoder.specs.Holes.{makes_hole, may_hole};
 
 use crate::draft::Draft;
 use crate::whole_row::WholeRow;
@@ -26,23 +24,17 @@ const KEY_BYTES: usize = 32;
 #[derive(Drop)]
 pub struct OpenRow {
     holder: Holder,
-    // Whether there may be holes, which only arrays have.
-    holed: bool,
     // What its places and keys weighed when it was opened, and what was put in since.
     weight: usize,
 }
 
 impl Model for OpenRow {
-    ghost use Rattle.std.specs.Prelude.{◌≡◌, false};
     ghost use Rattle.wire_model.specs.Effect.{Body};
     ghost use Rattle.wire_ops.specs.Bodies.{body_of};
-    ghost use Rattle.patch_decoder.specs.Holes.{IsWhole};
 
     ghost Value = { Body };
 
     ghost view = { λ r. body_of r.holder };
-
-    ghost invariant = { λ r. r.holed ≡ false → IsWhole (body_of r.holder) };
 }
 
 impl OpenRow {
@@ -52,7 +44,6 @@ impl OpenRow {
     {
         OpenRow {
             holder: Holder::Fields(TypeNum(0), Rising::new(alloc)),
-            holed: false,
             weight: 0,
         }
     }
@@ -65,7 +56,6 @@ impl OpenRow {
             Draft::Kept(row) => OpenRow::open_kept(alloc, row),
             Draft::Resting(rest) => Ok(OpenRow {
                 holder: Box::into_inner(rest).into_holder(),
-                holed: false,
                 weight: LIGHT,
             }),
         }
@@ -77,11 +67,7 @@ impl OpenRow {
     {
         let weight = weight_of(&row);
         let holder = Holder::open(alloc, row)?;
-        Ok(OpenRow {
-            holder,
-            holed: false,
-            weight,
-        })
+        Ok(OpenRow { holder, weight })
     }
 
     /// The item or the position of an operation is there, where the operation asks for it.
@@ -96,38 +82,21 @@ impl OpenRow {
         ensures { IfOk result (λ r. r ≡ effect (plain_edit op.now) self) }
     {
         Ok(OpenRow {
-            holed: self.holed || may_hole(&self.holder, op),
             weight: self.weight.saturating_add(weight_of_op(op)),
             holder: self.holder.apply(alloc, op)?,
         })
     }
 
-    /// Closes it. Where it is heavy and has no holes, it stays ready to be opened again.
+    /// Closes it. Where it is heavy, it stays ready to be opened again, without its holes.
     pub fn shut(self, alloc: Global) -> Result<Draft, Memory>
         ensures { IfOk result (λ draft. row_of draft ≡ closed self) }
     {
-        if self.holed || self.weight < LIGHT {
+        if self.weight < LIGHT {
             return Ok(Draft::Kept(self.holder.close(alloc)?));
         }
-        Ok(Draft::Resting(Box::new(alloc, WholeRow::of(self.holder))?))
+        let holder = self.holder.rest(alloc)?;
+        Ok(Draft::Resting(Box::new(alloc, WholeRow::of(holder))?))
     }
-}
-
-// An operation may make a hole in a holder: only the slots of an array can be holes.
-fn may_hole(holder: &Holder, op: &Op) -> bool
-    ensures { result ≡ may_hole (body_of holder.now) (plain_edit op.now) }
-{
-    match holder {
-        Holder::Slots(_, _) => makes_hole(op),
-        Holder::Fields(_, _) | Holder::Items(_, _) | Holder::Elements(_, _) => false,
-    }
-}
-
-// An operation makes a hole of a slot, where it finds one.
-fn makes_hole(op: &Op) -> bool
-    ensures { result ≡ makes_hole (plain_edit op.now) }
-{
-    matches!(op, Op::Delete(_) | Op::DeleteByRef(_))
 }
 
 // What it costs to open a collection: its places, and the bytes of its keys.

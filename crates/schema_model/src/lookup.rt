@@ -53,8 +53,9 @@ impl Schema {
         is_in_line(self.classes.as_slice(), sub, sup)
     }
 
-    // A field of a class, with the class that declares it.
-    fn declared(&self, class: TypeNum, index: u8) -> Option<(TypeNum, &FieldDecl)>
+    /// The field of a class at an index, with the class that declares it; `None` where there is no such class or field.
+    /// It goes up the class's parents at most twice.
+    pub fn declared(&self, class: TypeNum, index: u8) -> Option<(TypeNum, &FieldDecl)>
         ensures { option_map (λ d. let found : Declared = record { class = d.0; field = d.1.now } in found) result ≡ slice_get (fields_of self.now class) index }
     {
         let classes = self.classes.as_slice();

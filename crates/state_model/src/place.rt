@@ -16,9 +16,16 @@ pub enum Wanted {
 pub fn field_wants(schema: &Schema, class: TypeNum, index: u8) -> Option<Wanted>
     ensures { result ≡ field_wants schema.now class index }
 {
-    let field = schema.field(class, index)?;
-    let home = schema.home(class, index)?;
-    Some(wanted_by(field.shape, home))
+    match schema.declared(class, index) {
+        Some((class, field)) => {
+            let home = Home {
+                class,
+                field: index,
+            };
+            Some(wanted_by(field.shape, home))
+        }
+        None => None,
+    }
 }
 
 // What a field of this shape and home holds.

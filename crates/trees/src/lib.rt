@@ -10,5 +10,5 @@ pub mod tree;
 pub use holes::{close_holes, drop_last_holes};
 pub use numbered::Numbered;
 pub use slot::Slot;
-pub use text_index::TextIndex;
+pub use text_index::{TextIndex, text_hash};
 pub use tree::Tree;

@@ -1,4 +1,4 @@
-ghost use Rattle.std.specs.Prelude.{◌≡◌, ◌==◌, ◌++◌, [], ◌∷◌, length, map, slice_get, is_ok, is_some, if◌then◌else◌, option_copied};
+ghost use Rattle.std.specs.Prelude.{◌≡◌, ◌==◌, ◌++◌, [], ◌∷◌, length, map, slice_get, is_ok, is_some, IfErr, if◌then◌else◌, option_copied};
 ghost use Rattle.lists.specs.Rising.{RisesFrom, IsAbove, find, after_key, put, remove};
 ghost use Rattle.trees.specs.Slots.{AreOwn, item_of, items_in, slot_number};
 
@@ -84,12 +84,27 @@ impl<T: Keyed> Numbered<T> {
         requires { IsAbove T.key (T.key item) self.old }
         ensures { self.new ≡ (if is_ok result then self.old ++ item ∷ [] else self.old) }
     {
+        match self.push_or_return(item) {
+            Ok(()) => Ok(()),
+            Err(_) => Err(Memory),
+        }
+    }
+
+    /// Adds an item behind all others, or answers it where memory is out and changes nothing.
+    pub fn push_or_return(&mut self, item: T) -> Result<(), T>
+        requires { IsAbove T.key (T.key item) self.old }
+        ensures items { self.new ≡ (if is_ok result then self.old ++ item ∷ [] else self.old) }
+        ensures err { IfErr result (λ x. x ≡ item) }
+    {
         drop_last_holes(&mut self.slots);
+        if self.slots.reserve(1).is_err() {
+            return Err(item);
+        }
         let number = item.key();
-        self.slots.push(Slot {
+        self.slots.push_reserved(Slot {
             number,
             item: Some(item),
-        })?;
+        });
         self.len += 1;
         Ok(())
     }

@@ -1,5 +1,5 @@
 -- The parts of a frame between two settled views: each can be made, and they have bytes, which are the frame's.
-use Rattle.std.proofs.Common.{◌≡◌, true, false, List, [], ◌++◌, refl, ap, ◌∙◌}
+use Rattle.std.proofs.Common.{◌≡◌, true, false, List, [], ◌++◌, refl, sym, ap, ◌∙◌}
 use Rattle.schema_model.specs.Classes.{Schema, is_kept}
 use Rattle.state_model.specs.declared.row.RowEntry.{RowEntry}
 use Rattle.state_model.specs.Members.{Members}
@@ -16,19 +16,16 @@ use Rattle.wire_laws.proofs.StateFrames.{root_follows}
 use Rattle.block_laws.specs.Writable.{are_writable}
 use Rattle.state_model.specs.Spelled.{are_spelled}
 use Rattle.byte_laws.proofs.PartsBytes.{parts_have_bytes}
-use Rattle.canon_patch.specs.Kinds.{kinds_agree}
-use Rattle.canon_patch.proofs.KindsKept.{views_agree, left_agrees}
+use Rattle.canon_patch.specs.Positions.{have_positions}
+use Rattle.canon_patch.proofs.LeadingRows.{views_lead, left_leads}
 use Rattle.live_state.specs.Live.{Live, schema_of, rows_of}
 use Rattle.view_counts.specs.Settled.{View, AreSettled, view_before, view_now}
 
--- the parts of a frame from one view to another: the rows that each leads to, and those that the shared part leaves, are short; the rows that each leads from and to agree in kind;
+-- the parts of a frame from one view to another: each can be made,
 -- and the shared part and the patch from what it leaves have bytes, which are the frame's
 pub record IsFrame (schema : Schema) (shared0 permitted0 shared1 permitted1 : List RowEntry) (part : List Block) : Type 0 where
-  pub shared_short : are_short schema shared1 ≡ true
-  pub shared_kinds : kinds_agree shared0 shared1 ≡ true
-  pub left_short : are_short schema (applied schema permitted0 part) ≡ true
-  pub view_short : are_short schema permitted1 ≡ true
-  pub own_kinds : kinds_agree (applied schema permitted0 part) permitted1 ≡ true
+  pub shared_leads : have_positions schema shared0 shared1 ≡ true
+  pub own_leads : have_positions schema (applied schema permitted0 part) permitted1 ≡ true
   pub shared_written : are_writable part ≡ true
   pub own_written : are_writable (patch schema (applied schema permitted0 part) permitted1) ≡ true
   pub bytes : block_bytes part true ++ block_bytes (patch schema (applied schema permitted0 part) permitted1) false ≡ state_frame schema shared0 permitted0 shared1 permitted1
@@ -40,11 +37,10 @@ moments_frame schema old new kept f old_bytes new_bytes =
     let h = parts_have_bytes schema old new kept f old_bytes new_bytes in
     let own = ap (λ rows. patch schema rows (view_at schema new)) h.shared_means in
     record {
-      shared_short = h.new_shared_short;
-      shared_kinds = views_agree schema old.rows new.rows [] [] f;
-      left_short = h.left_short;
-      view_short = h.view_short;
-      own_kinds = ap (λ rows. kinds_agree rows (view_at schema new)) h.shared_means ∙ left_agrees schema old.rows new.rows old.members new.members f;
+      shared_leads = views_lead schema old.rows new.rows [] [] f h.old_shared_short h.new_shared_short;
+      own_leads =
+          ap (λ rows. have_positions schema rows (view_at schema new)) h.shared_means
+          ∙ left_leads schema old.rows new.rows old.members new.members f (ap (are_short schema) (sym h.shared_means) ∙ h.left_short) h.view_short;
       shared_written = h.shared_written;
       own_written = ap are_writable own ∙ h.view_written;
       bytes = ap (λ bs. block_bytes (patch schema (shared schema old.rows) (shared schema new.rows)) true ++ block_bytes bs false) own;

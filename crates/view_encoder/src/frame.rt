@@ -3,10 +3,9 @@ ghost use Rattle.std.specs.Prelude.{◌≡◌, ◌+◌, ◌≤◌, ◌++◌, tru
 ghost use Rattle.state_model.specs.Shown.{shared as shared_rows};
 ghost use Rattle.wire_model.specs.Frame.{patch as patch_of};
 ghost use Rattle.wire_model.specs.OpBytes.{block_bytes};
-ghost use Rattle.wire_model.specs.Patch.{are_short};
 ghost use Rattle.wire_model.specs.Resolved.{applied};
 ghost use Rattle.block_laws.specs.Writable.{are_writable};
-ghost use Rattle.canon_patch.specs.Kinds.{kinds_agree};
+ghost use Rattle.canon_patch.specs.Positions.{have_positions};
 ghost use Rattle.view_counts.specs.Settled.{AreSettled, encoding_steps, frame_of, full_state_of, settling_steps};
 
 use canon_patch::{apply_blocks, patch};
@@ -69,9 +68,7 @@ pub fn encode_full<L: Ledger>(
 
 // The shared part of a full state: the patch from the root alone to what everybody sees.
 fn shared_part(alloc: Global, schema: &Schema, root: &Rows, rows: &Rows) -> Result<Blocks, Memory>
-    requires root { IsTrue (are_short schema.now root.now) }
-    requires shared { IsTrue (are_short schema.now (shared_rows schema.now rows.now)) }
-    requires kinds { IsTrue (kinds_agree root.now (shared_rows schema.now rows.now)) }
+    requires { IsTrue (have_positions schema.now root.now (shared_rows schema.now rows.now)) }
     ensures { IfOk result (λ part. part ≡ patch_of schema.now root.now (shared_rows schema.now rows.now)) }
 {
     let shared = permitted(alloc, schema, rows, &[])?;
@@ -86,9 +83,7 @@ fn view_part(
     new: &Rows,
     part: &Blocks,
 ) -> Result<Blocks, Memory>
-    requires left { IsTrue (are_short schema.now (applied schema.now old.now part.now)) }
-    requires new { IsTrue (are_short schema.now new.now) }
-    requires kinds { IsTrue (kinds_agree (applied schema.now old.now part.now) new.now) }
+    requires { IsTrue (have_positions schema.now (applied schema.now old.now part.now) new.now) }
     ensures { IfOk result (λ own. own ≡ patch_of schema.now (applied schema.now old.now part.now) new.now) }
 {
     let left = apply_blocks(alloc, schema, old, part)?;

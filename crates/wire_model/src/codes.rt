@@ -26,3 +26,15 @@ pub const ADD_BY_REF: u8 = 129;
 
 /// Takes an instance out of an array by its number.
 pub const DELETE_BY_REF: u8 = 33;
+
+/// Turns an array round. It isn't taken.
+pub const REVERSE: u8 = 15;
+
+/// Moves an item. It isn't taken.
+pub const MOVE: u8 = 32;
+
+/// Takes an item out and moves another to its place. It isn't taken.
+pub const DELETE_AND_MOVE: u8 = 96;
+
+/// Moves an item and puts another to its place. It isn't taken.
+pub const MOVE_AND_ADD: u8 = 160;

@@ -1,6 +1,9 @@
+mod CountLaws
 mod IndexLaws
 mod ItemLaws
+mod KeptLaws
 mod PlaceLaws
+mod RestLaws
 mod SlotLaws
 pub mod EffectLaws
 pub mod NumbersWritable

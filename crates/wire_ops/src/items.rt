@@ -1,53 +1,77 @@
-ghost use Rattle.std.specs.Prelude.{◌≡◌, ◌==◌, ◌||◌, not, filter, [], OnOk, IfOk, is_some, option_copied};
-ghost use Rattle.wire_ops.specs.Keys.{may_lead};
+ghost use Rattle.std.specs.Prelude.{◌≡◌, ◌==◌, ◌||◌, not, [], None, OnOk, IfOk, IfSome};
 ghost use Rattle.std.specs.List.{list_any};
 ghost use Rattle.std.specs.Str.{bytes_eq};
 ghost use Rattle.lists.specs.Rising as rising;
 ghost use Rattle.state_model.specs.declared.row.MapItem.{MapItem};
+ghost use Rattle.trees.specs.Texts.{text_hash, has_text, leads, IsIndexOf};
 ghost use Rattle.wire_model.specs.Effect.{without_key, put_named, put_value};
-ghost use Rattle.wire_ops.specs.Index.{IsIndex, AreDifferent, item_at, other_than, without_item};
+ghost use Rattle.wire_ops.specs.Index.{key_texts, without_item, IsWithoutAny, IsWithoutItem, IsIndexWithout};
 
-use crate::key_index::{KeyIndex, is_taken, key_hash, owner};
 use lists::{Memory, Text};
 use schema_model::Value;
 use state_model::{MapItem, MapItems};
 use std::alloc::Global;
 use std::marker::Model;
 use std::mem;
-use trees::Tree;
+use trees::{TextIndex, Tree, text_hash};
 
 /// The items of a map while operations run: found by number and by key in logarithmic time.
 #[derive(Drop)]
 pub struct Items {
     items: Tree<MapItem>,
-    // The keys of the items. There is no index where several items that were taken over have one
-    // key, which no operation makes, and none after an operation that failed.
-    index: Option<KeyIndex>,
+    // Where the item of each key is. There is no index where several items that were taken over have
+    // one key, which no operation makes, and none after an operation that failed.
+    index: Option<TextIndex>,
 }
 
 impl Model for Items {
     ghost use Rattle.std.specs.Prelude.{List, IfSome};
-    ghost use Rattle.wire_ops.specs.Keys.{may_lead};
     ghost use Rattle.state_model.specs.declared.row.MapItem.{MapItem};
-    ghost use Rattle.wire_ops.specs.Index.{IsIndex, AreDifferent};
+    ghost use Rattle.trees.specs.Texts.{IsIndexOf};
+    ghost use Rattle.wire_ops.specs.Index.{key_texts};
 
     ghost Value = { List MapItem };
 
     ghost view = { λ s. s.items };
 
-    ghost invariant = { λ s. IfSome s.index (λ i. IsIndex s.items (may_lead i) × AreDifferent s.items) };
+    ghost invariant = { λ s. IfSome s.index (λ i. IsIndexOf (key_texts s.items) i) };
 }
 
 impl Items {
+    /// No items. They take no memory.
+    fn new(alloc: Global) -> Items
+        ensures { result ≡ [] }
+    {
+        Items {
+            items: Tree::new(alloc),
+            index: Some(TextIndex::new(alloc)),
+        }
+    }
+
     /// Items, taken over. Takes their number times its logarithm.
     pub(crate) fn open(alloc: Global, items: MapItems) -> Result<Items, Memory>
         ensures { IfOk result (λ s. s ≡ items) }
     {
-        let index = KeyIndex::of(alloc, &items)?;
-        Ok(Items {
-            items: Tree::from_rising(alloc, items)?,
-            index,
-        })
+        let mut opened = Items::new(alloc);
+        let mut items = items;
+        if items.is_empty() {
+            return Ok(opened);
+        }
+        while let Some(item) = items.pop() {
+            opened.add(alloc, item)?;
+        }
+        Ok(opened)
+    }
+
+    // Adds an item whose number no other has. Where another has its key there is no index from now on.
+    fn add(&mut self, alloc: Global, item: MapItem) -> Result<(), Memory>
+        requires { rising.find (λ (i : MapItem). i.number) item.number self.old ≡ None }
+        ensures { OnOk result (self.new ≡ rising.put (λ (i : MapItem). i.number) item self.old) }
+    {
+        let index = index_with(alloc, &self.items, self.index.take(), &item)?;
+        self.items.put(item)?;
+        self.index = index;
+        Ok(())
     }
 
     /// The items as a list.
@@ -122,7 +146,8 @@ impl Items {
     pub(crate) fn remove(&mut self, number: u32)
         ensures { self.new ≡ rising.remove (λ (i : MapItem). i.number) number self.old }
     {
-        self.items.remove(number);
+        let old = self.items.remove(number);
+        forget_in(&mut self.index, old);
     }
 
     /// Takes all items out.
@@ -130,7 +155,7 @@ impl Items {
         ensures { self.new ≡ [] }
     {
         self.items.clear();
-        self.index = Some(KeyIndex::new(alloc));
+        self.index = Some(TextIndex::new(alloc));
     }
 }
 
@@ -138,30 +163,113 @@ impl Items {
 fn put_by_index(
     alloc: Global,
     items: &mut Tree<MapItem>,
-    index: &mut KeyIndex,
+    index: &mut TextIndex,
     number: u32,
     key: &Text,
     value: Value,
 ) -> Result<(), Memory>
-    requires index { IsIndex items.old (may_lead index.old) }
-    requires different { AreDifferent items.old }
+    requires { IsIndexOf (key_texts items.old) index.old }
     ensures items { OnOk result (items.new ≡ put_named number key.now value items.old) }
-    ensures index { OnOk result (IsIndex items.new (may_lead index.new)) }
-    ensures different { OnOk result (AreDifferent items.new) }
+    ensures index { OnOk result (IsIndexOf (key_texts items.new) index.new) }
 {
-    let hash = key_hash(key);
-    let first = item_at(items, index.under(hash));
-    let second = item_at(items, index.by_itself(key));
-    let other = other_than(number, owner(first, second, key));
-    let taken = is_taken(first, key);
-    index.put(alloc, hash, key, number, taken)?;
-    items.put(MapItem {
+    let hash = text_hash(key.as_str());
+    let owner = number_of(items, index, hash, key);
+    let old = items.put(MapItem {
         number,
         key: key.copy(alloc)?,
         value,
     })?;
-    take_out(items, other);
-    Ok(())
+    if owner == Some(number) {
+        return Ok(());
+    }
+    take_owner(items, index, owner, hash, key);
+    forget(index, old);
+    index.put(alloc, hash, key.as_str(), number)
+}
+
+// The number of the item of a key, whose hash is given.
+fn number_of(items: &Tree<MapItem>, index: &TextIndex, hash: u32, key: &Text) -> Option<u32>
+    requires { hash ≡ text_hash key.now }
+    ensures { result ≡ leads (key_texts items.now) index.now key.now }
+{
+    let first = index.under(hash);
+    if found_has(items, first, key) {
+        return first;
+    }
+    index.by_itself(key.as_str())
+}
+
+// The item of a number that was found has this key. It takes no longer than this key is long,
+// however long the item's is.
+fn found_has(items: &Tree<MapItem>, number: Option<u32>, key: &Text) -> bool
+    ensures { result ≡ has_text (key_texts items.now) key.now number }
+{
+    let Some(number) = number else {
+        return false;
+    };
+    match items.get(number) {
+        Some(item) => has_key(item, key),
+        None => false,
+    }
+}
+
+// An index with the key of one more item, if there is an index, and none where another item has the key.
+fn index_with(
+    alloc: Global,
+    items: &Tree<MapItem>,
+    index: Option<TextIndex>,
+    item: &MapItem,
+) -> Result<Option<TextIndex>, Memory>
+    requires index { IfSome index (IsIndexOf (key_texts items.now)) }
+    requires new { rising.find (λ (i : MapItem). i.number) item.now.number items.now ≡ None }
+    ensures { IfOk result (λ made. IfSome made (IsIndexOf (key_texts (rising.put (λ (i : MapItem). i.number) item.now items.now)))) }
+{
+    let Some(index) = index else {
+        return Ok(None);
+    };
+    let hash = text_hash(item.key.as_str());
+    if number_of(items, &index, hash, &item.key).is_some() {
+        return Ok(None);
+    }
+    let mut index = index;
+    index.put(alloc, hash, item.key.as_str(), item.number)?;
+    Ok(Some(index))
+}
+
+// Takes the item of a number out, where there is one, and its key, whose hash is given, out of the index.
+fn take_owner(
+    items: &mut Tree<MapItem>,
+    index: &mut TextIndex,
+    owner: Option<u32>,
+    hash: u32,
+    key: &Text,
+)
+    requires { hash ≡ text_hash key.now }
+    ensures items { items.new ≡ without_item owner items.old }
+    ensures index { IsWithoutAny index.old index.new key.now owner }
+{
+    if let Some(owner) = owner {
+        items.remove(owner);
+        index.remove(hash, key.as_str(), owner);
+    }
+}
+
+// Takes the key of an item that is gone out of the index, where there is such an item.
+fn forget(index: &mut TextIndex, old: Option<MapItem>)
+    ensures { IsWithoutItem index.old index.new old }
+{
+    if let Some(old) = old {
+        index.remove(text_hash(old.key.as_str()), old.key.as_str(), old.number);
+    }
+}
+
+// The same where there may be no index.
+fn forget_in(index: &mut Option<TextIndex>, old: Option<MapItem>)
+    ensures { IsIndexWithout index.old index.new old }
+{
+    if let Some(index) = index {
+        forget(index, old);
+    }
 }
 
 // Items with one more. Another number with its key is gone. Looks at all items.
@@ -182,32 +290,6 @@ fn with_item(
         value,
     })?;
     Ok(put)
-}
-
-// A number that was found, unless it is this one.
-fn other_than(number: u32, found: Option<u32>) -> Option<u32>
-    ensures { result ≡ other_than number found }
-{
-    match found {
-        Some(other) if other != number => Some(other),
-        _ => None,
-    }
-}
-
-// Takes the item of a number out, where there is one.
-fn take_out(items: &mut Tree<MapItem>, number: Option<u32>)
-    ensures { items.new ≡ without_item number items.old }
-{
-    if let Some(number) = number {
-        items.remove(number);
-    }
-}
-
-// The item of a number, where there is one.
-fn item_at<'a>(items: &'a Tree<MapItem>, number: Option<u32>) -> Option<&'a MapItem>
-    ensures { option_copied result ≡ item_at items.now number }
-{
-    items.get(number?)
 }
 
 // The items without another number that has this key.

@@ -5,7 +5,6 @@ mod carried;
 mod effect;
 mod holder;
 mod items;
-mod key_index;
 mod links;
 mod slots;
 mod write;

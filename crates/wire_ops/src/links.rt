@@ -1,5 +1,5 @@
 ghost use Rattle.std.specs.Prelude.{◌≡◌, [], Some, OnOk, OnErr};
-ghost use Rattle.wire_ops.specs.Places.{IsFirstPlace, NotesAlso, NotesNoMore};
+ghost use Rattle.wire_ops.specs.Places.{IsFirstPlace, NotesAlso, NotesNoMore, NotesAt, NotesInstead};
 
 use lists::Memory;
 use schema_model::Value;
@@ -59,6 +59,20 @@ impl LinkPlaces {
         if let Value::Link(who) = value {
             self.pairs.remove(&(who.0, place));
         }
+    }
+
+    /// A value stands at a place where another one stood: its link is noted, and the other's no more.
+    /// An `Err` changes nothing.
+    pub(crate) fn exchange(&mut self, old: &Value, new: &Value, place: u64) -> Result<(), Memory>
+        requires { NotesAt (Some old.now) place self.old }
+        ensures ok { OnOk result (NotesInstead (Some new.now) place self.old self.new) }
+        ensures err { OnErr result (self.new ≡ self.old) }
+    {
+        self.add(new, place)?;
+        if !old.same(new) {
+            self.remove(old, place);
+        }
+        Ok(())
     }
 
     /// No link stands anywhere.

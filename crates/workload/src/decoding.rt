@@ -1,13 +1,12 @@
 //! The kernels over state bytes, and over the rows that they lead to.
 ghost use Rattle.std.specs.Prelude.{IsTrue};
-ghost use Rattle.wire_model.specs.Patch.{are_short};
-ghost use Rattle.canon_patch.specs.Kinds.{kinds_agree};
+ghost use Rattle.canon_patch.specs.Positions.{have_positions};
 
 use crate::fault::WorkFault;
-use crate::frames::{deletes, full_state, patch as patch_frame};
+use crate::frames::{deletes, full_numbers, full_state, patch as patch_frame};
 use crate::game::schema;
 use crate::sums::sum_of_rows;
-use canon_patch::{apply_blocks, are_short, kinds_agree, patch};
+use canon_patch::{apply_blocks, have_positions, patch};
 use lists::Memory;
 use patch_decoder::{Decoder, OpFault};
 use plain_rows::Rows;
@@ -69,14 +68,28 @@ pub fn decode_patches(alloc: Global, changes: u32, times: u32) -> Result<u64, Wo
     )
 }
 
-/// Decodes the full state of so many players and a patch of as many deletes, so many times.
+/// Decodes the full state of so many players, and a patch that takes as many out of their map, every second number from the
+/// first one on, so many times.
 pub fn decode_deletes(alloc: Global, players: u32, times: u32) -> Result<u64, WorkFault> {
     let full = full_state(alloc, players)?;
-    let patch = deletes(alloc, players)?;
+    let patch = deletes(alloc, players, 2)?;
+    decode_both(alloc, &full, &patch, times)
+}
+
+/// Decodes the full state of so many numbers in an array, and a patch that takes the first of them out as often, so many
+/// times.
+pub fn decode_turns(alloc: Global, numbers: u32, times: u32) -> Result<u64, WorkFault> {
+    let full = full_numbers(alloc, numbers)?;
+    let patch = deletes(alloc, numbers, 0)?;
+    decode_both(alloc, &full, &patch, times)
+}
+
+// Decodes a full state and a patch behind it, so many times.
+fn decode_both(alloc: Global, full: &[u8], patch: &[u8], times: u32) -> Result<u64, WorkFault> {
     let mut decoder = new_decoder(alloc)?;
     decode(
         &mut decoder,
-        &[Frame::Full(&full), Frame::Patch(&patch)],
+        &[Frame::Full(full), Frame::Patch(patch)],
         times,
     )
 }
@@ -119,7 +132,7 @@ fn compare_rows(
     applied: bool,
 ) -> Result<u64, WorkFault> {
     let schema = schema(alloc)?;
-    if !are_short(&schema, old) || !are_short(&schema, new) || !kinds_agree(old, new) {
+    if !have_positions(&schema, old, new) {
         return Err(WorkFault::Refused);
     }
     let mut sum: u64 = 0;
@@ -136,9 +149,7 @@ fn compare_once(
     new: &Rows,
     applied: bool,
 ) -> Result<u64, Memory>
-    requires old { IsTrue (are_short schema.now old.now) }
-    requires new { IsTrue (are_short schema.now new.now) }
-    requires kinds { IsTrue (kinds_agree old.now new.now) }
+    requires { IsTrue (have_positions schema.now old.now new.now) }
 {
     let blocks = patch(alloc, schema, old, new)?;
     if applied {

@@ -1,21 +1,14 @@
-//! State bytes of the game that is measured, spelled number by number: players with a name and two numbers.
-use crate::game::{COLLECTION, PLAYERS, ROOT, X, player};
+//! State bytes of the game that is measured, spelled number by number: players with a name and two numbers, or an array of
+//! numbers.
+use crate::game::{COLLECTION, NUMBERS, PLAYERS, ROOT, X, player};
 use lists::Memory;
 use scalar_codec::put_number;
 use schema_model::RefNum;
 use std::alloc::Global;
+use wire_model::codes::{ADD, DELETE, REPLACE, SWITCH, TYPE_MARK};
 
-// A switch to another row, and the mark of a player.
-const SWITCH: u8 = 255;
-
-const PLAYER_MARK: [u8; 2] = [213, 1];
-
-// The operations, beside the index of a field.
-const ADD: u8 = 128;
-
-const REPLACE: u8 = 0;
-
-const DELETE: u8 = 64;
+// The mark of a player.
+const PLAYER_MARK: [u8; 2] = [TYPE_MARK, 1];
 
 fn signed(number: u32) -> i32 {
     i32::try_from(number).unwrap_or(i32::MAX)
@@ -91,12 +84,25 @@ pub fn patch(alloc: Global, changes: u32, number: u32) -> Result<Vec<u8>, Memory
     Ok(out)
 }
 
-/// A patch that takes so many players of even numbers out of their map, and goes to the root after each of them.
-pub fn deletes(alloc: Global, count: u32) -> Result<Vec<u8>, Memory> {
+/// The full state of so many numbers in an array.
+pub fn full_numbers(alloc: Global, count: u32) -> Result<Vec<u8>, Memory> {
     let mut out = Vec::new(alloc);
-    for number in 0..count {
+    code(&mut out, ADD + NUMBERS, COLLECTION.0)?;
+    turn(&mut out, COLLECTION)?;
+    for at in 0..count {
+        code(&mut out, ADD, at)?;
+        put(&mut out, at)?;
+    }
+    Ok(out)
+}
+
+/// A patch that takes an item out of the collection so many times, and goes to the root after each: of 0 first, and then
+/// each time so much further on.
+pub fn deletes(alloc: Global, count: u32, step: u32) -> Result<Vec<u8>, Memory> {
+    let mut out = Vec::new(alloc);
+    for turns in 0..count {
         turn(&mut out, COLLECTION)?;
-        code(&mut out, DELETE, number.wrapping_mul(2))?;
+        code(&mut out, DELETE, turns.wrapping_mul(step))?;
         turn(&mut out, ROOT)?;
     }
     Ok(out)

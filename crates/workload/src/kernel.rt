@@ -2,6 +2,7 @@
 use crate::commands::Script;
 use crate::events::Crowd;
 use crate::fault::WorkFault;
+use crate::part::Part;
 use crate::{decoding, schemas, tables, views};
 use std::alloc::Global;
 
@@ -25,6 +26,7 @@ pub enum Kernel {
     DecodeFull,
     DecodePatch,
     DecodeDeletes,
+    DecodeTurns,
     /// The patch between rows.
     Patch,
     /// The same patch, and what it makes of the old rows.
@@ -36,16 +38,18 @@ pub enum Kernel {
 }
 
 // Each with its name.
-const KERNELS: [(&str, Kernel); 14] = [
+const KERNELS: [(&str, Kernel); 16] = [
     ("things", Kernel::Commands(Script::Things)),
     ("players", Kernel::Commands(Script::Players)),
     ("numbers_back", Kernel::Commands(Script::NumbersBack)),
     ("numbers_front", Kernel::Commands(Script::NumbersFront)),
     ("chain_up", Kernel::Commands(Script::ChainUp)),
     ("held_swept", Kernel::Commands(Script::HeldSwept)),
+    ("rows_swept", Kernel::Commands(Script::RowsSwept)),
     ("decode_full", Kernel::DecodeFull),
     ("decode_patch", Kernel::DecodePatch),
     ("decode_deletes", Kernel::DecodeDeletes),
+    ("decode_turns", Kernel::DecodeTurns),
     ("patch", Kernel::Patch),
     ("apply_blocks", Kernel::ApplyBlocks),
     ("read_schema", Kernel::ReadSchema),
@@ -64,18 +68,20 @@ impl Kernel {
         None
     }
 
-    /// Does the kernel's work of a size so many times, and sums up what it gave.
-    pub fn work(self, alloc: Global, size: u32, times: u32) -> Result<u64, WorkFault> {
+    /// Does the kernel's work of a size so many times, or what comes before it, and sums up what it gave.
+    pub fn work(self, alloc: Global, size: u32, times: u32, part: Part) -> Result<u64, WorkFault> {
+        let done = part.times(times);
         match self {
-            Kernel::Commands(script) => tables::play(alloc, script, size, times),
-            Kernel::DecodeFull => decoding::decode_full(alloc, size, times),
-            Kernel::DecodePatch => decoding::decode_patches(alloc, size, times),
-            Kernel::DecodeDeletes => decoding::decode_deletes(alloc, size, times),
-            Kernel::Patch => decoding::compare(alloc, size, times, false),
-            Kernel::ApplyBlocks => decoding::compare(alloc, size, times, true),
-            Kernel::ReadSchema => schemas::read_classes(alloc, size, times),
-            Kernel::ViewsFew => views::watch(alloc, size, FEW, times),
-            Kernel::ViewsMany => views::watch(alloc, size, MANY, times),
+            Kernel::Commands(script) => tables::play(alloc, script, size, times, part),
+            Kernel::DecodeFull => decoding::decode_full(alloc, size, done),
+            Kernel::DecodePatch => decoding::decode_patches(alloc, size, done),
+            Kernel::DecodeDeletes => decoding::decode_deletes(alloc, size, done),
+            Kernel::DecodeTurns => decoding::decode_turns(alloc, size, done),
+            Kernel::Patch => decoding::compare(alloc, size, done, false),
+            Kernel::ApplyBlocks => decoding::compare(alloc, size, done, true),
+            Kernel::ReadSchema => schemas::read_classes(alloc, size, done),
+            Kernel::ViewsFew => views::watch(alloc, size, FEW, done),
+            Kernel::ViewsMany => views::watch(alloc, size, MANY, done),
         }
     }
 }

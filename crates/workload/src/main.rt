@@ -1,5 +1,6 @@
 //! Work of a size, for measuring: `workload KERNEL SIZE` does the work of a kernel once, `workload KERNEL SIZE TIMES` so
-//! many times, and prints a sum that a second run repeats. Without words, or with others, it prints nothing.
+//! many times, `workload KERNEL SIZE TIMES before` only what comes before it, as often, so that its time can be taken off.
+//! It prints a sum that a second run repeats. Without words, or with others, it prints nothing.
 #![tactic(auto)]
 
 mod commands;
@@ -9,6 +10,7 @@ mod fault;
 mod frames;
 mod game;
 mod kernel;
+mod part;
 mod schemas;
 mod sums;
 mod tables;
@@ -16,6 +18,7 @@ mod views;
 
 use fault::WorkFault;
 use kernel::Kernel;
+use part::Part;
 use std::process::ExitCode;
 use std::{env, io};
 
@@ -25,17 +28,23 @@ struct Task {
     kernel: Kernel,
     size: u32,
     times: u32,
+    part: Part,
 }
 
 // What the words ask for.
 fn asked(rt: &HostRuntime) -> io::Result<Option<Task>> {
     let mut words = env::args(rt)?.skip(1);
     let (name, size, times) = (words.next(), words.next(), words.next());
-    Ok(task_of(name, size, times))
+    Ok(task_of(name, size, times, words.next()))
 }
 
 // The task of these words, where they are those of one.
-fn task_of(name: Option<String>, size: Option<String>, times: Option<String>) -> Option<Task> {
+fn task_of(
+    name: Option<String>,
+    size: Option<String>,
+    times: Option<String>,
+    part: Option<String>,
+) -> Option<Task> {
     let name = name?;
     let size = size?;
     let times = match times {
@@ -46,6 +55,7 @@ fn task_of(name: Option<String>, size: Option<String>, times: Option<String>) ->
         kernel: Kernel::named(&name)?,
         size: size.parse::<u32>().ok()?,
         times,
+        part: Part::named(part)?,
     })
 }
 
@@ -56,7 +66,10 @@ fn main(rt: HostRuntime) -> ExitCode {
     let Some(task) = asked else {
         return ExitCode::SUCCESS;
     };
-    match task.kernel.work(rt.alloc(), task.size, task.times) {
+    match task
+        .kernel
+        .work(rt.alloc(), task.size, task.times, task.part)
+    {
         Ok(sum) => match println!(rt; "{sum}") {
             Ok(()) => ExitCode::SUCCESS,
             Err(_) => ExitCode::from(5),

@@ -5,6 +5,7 @@ use Rattle.state_model.specs.Rows.{row_at}
 use Rattle.state_model.specs.Reached.{is_among}
 use Rattle.canon_patch.specs.Names.{named_by_ops}
 use Rattle.canon_patch.specs.NewRows.{new_encoded, next_new}
+use Rattle.canon_patch.proofs.LeadingRows.{fresh_short}
 use Rattle.canon_patch.proofs.NewRows.{new_encoded_last, new_encoded_none, new_encoded_turn}
 use Rattle.canon_patch.proofs.blocks.push_new_blocks.Goals as goal
 
@@ -44,3 +45,7 @@ returns c =
     new_encoded_last (length c.args.to.now.rows.now) c.args.to.now.schema.now c.args.old.now c.args.to.now.rows.now c.args.names.items _ _
     (new_encoded (length c.args.to.now.rows.now - c.loop.counter) c.args.to.now.schema.now c.args.to.now.rows.now is_done (drop c.loop.at c.loop.names.items))
     c.loop.invariant.encoded (rw none refl)
+
+-- the new row is short: it wasn't there
+pub new_ops-requires : goal.new_ops-requires
+new_ops-requires c = fresh_short c.args.to.now.schema.now c.args.old.now c.args.to.now.rows.now c.in-Some.who c.requires (c.in-Some.ensures.fresh (c.in-Some.who, c.in-Some.behind) refl)

@@ -15,7 +15,7 @@ pub returns-in-Some-clause-value : goal.returns-in-Some-clause-value
 returns-in-Some-clause-value c =
     let items = c.args.items.now.items in
     let told = c.number_of.ensures ∙ ap (λ k. option_map map_number (key_item items k)) c.as_str.ensures in
-    c.get.ensures ∙ value_by_number items c.args.key.now c.in-Some.number c.given.ensures.kept.rises (sym c.in-Some.is ∙ told)
+    c.get.ensures ∙ value_by_number items c.args.key.now c.in-Some.number c.know_kept.ensures.rises (sym c.in-Some.is ∙ told)
 
 pub returns-in-None-clause-absent : goal.returns-in-None-clause-absent
 returns-in-None-clause-absent c =

@@ -4,20 +4,10 @@ use Rattle.view_counts.specs.Settled.{frame_of}
 use Rattle.view_encoder.proofs.SettledFrames.{settled_frame}
 use Rattle.view_encoder.proofs.frame.encode_view.Goals as goal
 
-pub view_part-requires-clause-left : goal.view_part-requires-clause-left
-view_part-requires-clause-left g c =
+pub view_part-requires : goal.view_part-requires
+view_part-requires g c =
     let f = settled_frame c.args.live.now c.args._members.now c.args._shared.now c.args.view.now c.args.part.now c.schema-schema.ensures.limits c.schema-schema.ensures.spelled c.requires in
-    rw (c.schema-schema.ensures.value, c.before-3.ensures) f.left_short
-
-pub view_part-requires-clause-new : goal.view_part-requires-clause-new
-view_part-requires-clause-new g c =
-    let f = settled_frame c.args.live.now c.args._members.now c.args._shared.now c.args.view.now c.args.part.now c.schema-schema.ensures.limits c.schema-schema.ensures.spelled c.requires in
-    rw (c.schema-schema.ensures.value, c.after-2.ensures) f.view_short
-
-pub view_part-requires-clause-kinds : goal.view_part-requires-clause-kinds
-view_part-requires-clause-kinds g c =
-    let f = settled_frame c.args.live.now c.args._members.now c.args._shared.now c.args.view.now c.args.part.now c.schema-schema.ensures.limits c.schema-schema.ensures.spelled c.requires in
-    rw (c.schema-schema.ensures.value, c.before-3.ensures, c.after-2.ensures) f.own_kinds
+    rw (c.schema-schema.ensures.value, c.before-3.ensures, c.after-2.ensures) f.own_leads
 
 pub both_parts-requires-clause-shared : goal.both_parts-requires-clause-shared
 both_parts-requires-clause-shared g c =

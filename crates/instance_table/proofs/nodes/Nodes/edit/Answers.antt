@@ -36,14 +36,14 @@ pub returns-clause-rises : goal.returns-clause-rises
 returns-clause-rises c = subst (RisesFrom number_of 0) c.self.view_is (entries_rise 0 c.self.inside.slots.items c.self.invariant.0)
 
 -- the row in the slot is that of the number
-there : (c : goal.After-index_mut) → node_at c.args.self.now c.args.who ≡ c.index_mut.result.now.item
+there : (c : goal.After-edit-arg-1) → node_at c.args.self.now c.args.who ≡ c.index_mut.result.now.item
 there c =
     let here = rw c.as_slice.ensures.value at c.in-Ok.ensures.found in
     let found = slot_found c.who.inside.0 c.self.inside.slots.items c.in-Ok.at c.index_mut.result.now c.self.invariant.0 here.0 (here.1 c.index_mut.result.now) in
     sym (ap₂ node_at c.self.view_is c.who.view_is) ∙ (found ∙ ap (λ (s : Slot Node). s.item) (sym c.index_mut.ensures.value))
 
 pub edit-requires-clause-number : goal.edit-requires-clause-number
-edit-requires-clause-number c = subst (λ (o : Option Node). IfSome o (λ n. c.args.number ≡ item_number c.args.command.now (row_of n.body))) (there c) c.requires.number
+edit-requires-clause-number c = subst (λ (o : Option Node). IfSome o (λ n. c.args.spot.now.number ≡ item_number c.args.command.now (row_of n.body))) (there c) c.requires.number
 
 pub edit-requires-clause-can : goal.edit-requires-clause-can
 edit-requires-clause-can c = subst (λ (o : Option Node). IfSome o (λ n. CanEdit c.args.command.now n.body)) (there c) c.requires.can

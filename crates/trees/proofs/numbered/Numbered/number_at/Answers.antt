@@ -1,8 +1,5 @@
-use Rattle.std.proofs.Common.{Some, ap, map}
-use Rattle.std.specs.List.{slice_get}
-use Rattle.std.specs.Option.{option_map}
+use Rattle.std.proofs.Common.{Some, ap}
 use Rattle.std.proofs.lemmas.Option.{slice_get-map}
-use Rattle.lists.specs.Rising.{RisesFrom}
 use Rattle.trees.specs.Slots.{item_of, items_in}
 use Rattle.trees.proofs.SlotLaws.{item_agrees, items_rise}
 use Rattle.trees.proofs.numbered.Numbered.number_at.Goals as goal

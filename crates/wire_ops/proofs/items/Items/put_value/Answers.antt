@@ -1,8 +1,7 @@
 use Rattle.std.proofs.Common.{◌∙◌, sym}
-use Rattle.wire_ops.specs.Keys.{may_lead}
 use Rattle.std.proofs.lemmas.Option.{IfSome_then}
 use Rattle.lists.proofs.RisingLaws.{remove_missing}
-use Rattle.wire_ops.proofs.IndexLaws.{IsIndex-again, AreDifferent-again}
+use Rattle.wire_ops.proofs.IndexLaws.{again_index}
 use Rattle.wire_ops.proofs.ItemLaws.{number_of, put_value-missing, put_value-again}
 use Rattle.wire_ops.proofs.items.Items.put_value.Goals.{in-Some+in_ok-put, in_default}
 use Rattle.wire_ops.proofs.items.Items.put_value.Goals as goal
@@ -26,10 +25,7 @@ invariant_of-self-2 c =
       | in-Some+in_ok-put w ↦
           let found = sym c.remove.ensures.found ∙ w.in-Some.is in
           rw (c.take-index.ensures.value, w.self-inside-is, w.in_ok-put.ensures.ok, c.remove.ensures.rest)
-          (IfSome_then c.self.inside.index c.self.invariant (λ i index. (
-            IsIndex-again c.args.number c.args.value w.in-Some.old c.self.inside.items (may_lead i) index.0 found,
-            AreDifferent-again c.args.number c.args.value w.in-Some.old c.self.inside.items index.1 found,
-          )))
+          (IfSome_then c.self.inside.index c.self.invariant (λ i index. again_index c.args.number c.args.value w.in-Some.old c.self.inside.items i found index))
       | in_default w ↦
           let missing = sym c.remove.ensures.found ∙ w.in_default.is in
           let unchanged = remove_missing number_of c.args.number c.self.inside.items missing in
