@@ -10,7 +10,8 @@ use Rattle.room_model.specs.declared.event.RoomEvent.{RoomEvent}
 use Rattle.room_model.specs.declared.event.RoomEvent.TheVariants as event
 use Rattle.room_model.specs.declared.event.RoomOut.{RoomOut}
 use Rattle.room_model.specs.declared.event.RoomOut.TheVariants as room_out
-use Rattle.room_model.specs.Seats.{in_use, Reservation}
+use Rattle.room_model.specs.declared.seat.SeatEntry.{SeatEntry}
+use Rattle.room_model.specs.Seats.{in_use, is_reservation}
 use Rattle.room_model.specs.Room.{RoomValue, new_room, after_reserve, room_step}
 use Rattle.hub_model.specs.declared.event.HubEvent.{HubEvent}
 use Rattle.hub_model.specs.declared.event.HubEvent.TheVariants.{At, Ask, Bad, Opening, Frame, Lost, Act as Acted, Tick}
@@ -126,7 +127,8 @@ asked schema h conn room session (Some def) = (
 -- the session of a room whose reservation a target opens
 abbrev pub opened_session : List ℕ → List ℕ → HubRoom → Option (List ℕ × List ℕ)
 opened_session process target r =
-    option_map (λ (s : Reservation). (r.id, s.session)) (find (λ (s : Reservation). bytes_eq target (opening_target process r.id s.session)) r.room.seats.reserved)
+    option_map (λ (e : SeatEntry). (r.id, e.session))
+    (find (λ (e : SeatEntry). is_reservation (Some e.seat) && bytes_eq target (opening_target process r.id e.session)) r.room.seats.entries)
 
 -- the room and the session whose reservation a target opens
 abbrev pub opened_by : List ℕ → List ℕ → List HubRoom → Option (List ℕ × List ℕ)

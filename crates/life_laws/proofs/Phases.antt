@@ -12,6 +12,7 @@ use Rattle.room_model.specs.declared.event.RoomOut.{RoomOut}
 use Rattle.room_model.specs.declared.event.RoomOut.TheVariants as out
 use Rattle.room_model.specs.declared.event.Stage.{Stage}
 use Rattle.room_model.specs.declared.event.Stage.TheVariants as stage
+use Rattle.room_model.specs.declared.seat.Seat.TheVariants as seat
 use Rattle.room_model.specs.Seats.{Seats}
 use Rattle.room_model.specs.Sessions.{Session}
 use Rattle.room_model.specs.Room.{RoomValue, join_frame}
@@ -35,10 +36,7 @@ abbrev reserved_seats : ℕ → List ℕ → ℕ → Seats
 reserved_seats max session lapse = record {
   max = max;
   locked = false;
-  seats = [];
-  reserved = record { session = session; lapse = lapse } ∷ [];
-  kept = [];
-  order = session ∷ [];
+  entries = record { session = session; seat = seat.Reserved lapse } ∷ [];
 }
 
 -- the places of a room with a seat
@@ -46,10 +44,7 @@ abbrev pub taken_seats : ℕ → List ℕ → List ℕ → Seats
 taken_seats max session token = record {
   max = max;
   locked = false;
-  seats = record { session = session; token = token } ∷ [];
-  reserved = [];
-  kept = [];
-  order = session ∷ [];
+  entries = record { session = session; seat = seat.Taken token } ∷ [];
 }
 
 -- the places

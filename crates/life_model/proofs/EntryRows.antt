@@ -19,8 +19,8 @@ use Rattle.room_model.specs.declared.event.Act.TheVariants as act
 use Rattle.room_model.specs.declared.event.Stage.{Stage}
 use Rattle.room_model.specs.declared.event.Stage.TheVariants as stage
 use Rattle.room_model.specs.declared.refusal.Refusal.TheVariants as refusal
-use Rattle.room_model.specs.Seats.{Seats, reserved_seat, taken_seat}
-use Rattle.room_model.specs.Ledger.{kept_seat}
+use Rattle.room_model.specs.declared.seat.Seat.TheVariants as seat
+use Rattle.room_model.specs.Seats.{Seats, reserved_seat, seated}
 use Rattle.room_model.specs.Sessions.{Session}
 use Rattle.room_model.specs.Room.{RoomValue}
 use Rattle.hub_model.specs.declared.event.HubEvent.{HubEvent}
@@ -92,22 +92,19 @@ abbrev other_seat : Seats
 other_seat = record {
   max = 4;
   locked = false;
-  seats = record { session = other; token = codes "token0002" } ∷ [];
-  reserved = [];
-  kept = [];
-  order = other ∷ [];
+  entries = record { session = other; seat = seat.Taken (codes "token0002") } ∷ [];
 }
 
 abbrev my_reservation : Seats
 my_reservation = reserved_seat other_seat mine 15000
 
 abbrev my_seat : Seats
-my_seat = taken_seat my_reservation mine (codes "token0001")
+my_seat = seated my_reservation mine (seat.Taken (codes "token0001"))
 
 abbrev seats_at : Option Stage → Seats
 seats_at None = other_seat
 seats_at (Some stage.Reserved) = my_reservation
-seats_at (Some stage.Kept) = kept_seat my_seat mine (codes "token0001") 20000
+seats_at (Some stage.Kept) = seated my_seat mine (seat.Kept (codes "token0001") 20000)
 seats_at (Some s) = my_seat
 
 abbrev sessions_at : Option Stage → List Session

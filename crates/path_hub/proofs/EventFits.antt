@@ -1,6 +1,6 @@
 -- What the events of a schedule leave of its room.
-use Rattle.std.proofs.Common.{◌≡◌, ℕ, Bool, true, false, not, cond, ◌||◌, List, [], ◌∷◌, map, filter, Option, Some, None, is_some, Result, Ok, Err, refl, sym, ap, subst, ◌∙◌}
-use Rattle.std.specs.List.{list_any}
+use Rattle.std.proofs.Common.{◌≡◌, ℕ, Bool, true, false, cond, List, [], ◌∷◌, map, Option, Some, None, is_some, Result, Ok, Err, refl, sym, ap, subst, ◌∙◌}
+use Rattle.std.specs.List.{find, list_any}
 use Rattle.std.specs.Option.{option_map, option_map_or}
 use Rattle.std.specs.Str.{bytes_eq}
 use Rattle.lists.proofs.SameBytes.{bytes_eq_self}
@@ -14,8 +14,10 @@ use Rattle.room_model.specs.declared.event.RoomOut.TheVariants as out
 use Rattle.room_model.specs.declared.event.Stage.{Stage}
 use Rattle.room_model.specs.declared.event.Stage.TheVariants.{Reserved, Joining, Due, Live, Kept}
 use Rattle.room_model.specs.declared.seat.SeatFault.TheVariants as fault
-use Rattle.room_model.specs.Seats.{Seats, Seat, Reservation, KeptSeat, has_reservation, taken_seat}
-use Rattle.room_model.specs.Ledger.{has_token, take_seat}
+use Rattle.room_model.specs.declared.seat.Seat.TheVariants as seat
+use Rattle.room_model.specs.declared.seat.SeatEntry.{SeatEntry}
+use Rattle.room_model.specs.Seats.{Seats, seat_of, seated, seated_entry, is_reservation}
+use Rattle.room_model.specs.Ledger.{has_token, has_as_token, take_of, take_seat}
 use Rattle.room_model.specs.Sessions.{Session, session_of, change_session, is_connected, at_stage}
 use Rattle.room_model.specs.Room.{RoomValue, with_sessions, after_enter, after_return, after_read, after_frame, after_answer, where_connected, after_tick, acknowledged, acknowledged_at, opened_by, session_swept, ticked_at}
 use Rattle.room_laws.proofs.SessionLists.{named_key, session_mapped, session_changed}
@@ -28,46 +30,48 @@ is_connected_at o = option_map_or (λ (s : Session). is_connected s.stage) o fal
 -- ---- a command
 
 pub answer_waits : (session : List ℕ) (r : RoomValue) (a : Result (State × Option ℕ) TableFault) → Waits session r → Waits session (after_answer r a).0
-answer_waits session r (Ok x) w = record { lapse = w.lapse; reserved = w.reserved; no_seats = w.no_seats; none_kept = w.none_kept; there = w.there }
+answer_waits session r (Ok x) w = record { lapse = w.lapse; entries = w.entries; there = w.there }
 answer_waits session r (Err f) w = w
 
 pub answer_comes : (session : List ℕ) (r : RoomValue) (a : Result (State × Option ℕ) TableFault) → HasCome session r → HasCome session (after_answer r a).0
-answer_comes session r (Ok x) h = record { none_reserved = h.none_reserved; is_connected = h.is_connected }
+answer_comes session r (Ok x) h = record { token = h.token; entries = h.entries; is_connected = h.is_connected }
 answer_comes session r (Err f) h = h
 
 -- ---- the opening
 
 pub enter_comes : (session fresh : List ℕ) (r : RoomValue) → Waits session r → HasCome session (after_enter r session None fresh).0
-enter_comes session fresh r w = subst (λ (x : RoomValue). HasCome session x) (sym entered) (record { none_reserved = gone; is_connected = by_session (session_of r.sessions session) refl w.there })
+enter_comes session fresh r w = subst (λ (x : RoomValue). HasCome session x) (sym entered) (record {
+  token = fresh;
+  entries = seated_now;
+  is_connected = by_session (session_of r.sessions session) refl w.there;
+})
   where
-    own : Reservation
-    own = record { session = session; lapse = w.lapse }
+    own : SeatEntry
+    own = record { session = session; seat = seat.Reserved w.lapse }
 
     seats : Seats
-    seats = taken_seat r.seats session fresh
+    seats = seated r.seats session (seat.Taken fresh)
 
-    has : has_reservation r.seats session ≡ true
-    has = ap (λ rs. list_any (λ (x : Reservation). bytes_eq x.session session) rs) w.reserved ∙ ap (λ b. b || false) (bytes_eq_self session)
+    seated_now : seats.entries ≡ record { session = session; seat = seat.Taken fresh } ∷ []
+    seated_now =
+        ap (map (seated_entry session (seat.Taken fresh))) w.entries
+        ∙ ap (λ b. let e : SeatEntry = cond b (record { session = session; seat = seat.Taken fresh }) own in e ∷ []) (bytes_eq_self session)
+
+    waits : seat_of r.seats session ≡ Some (seat.Reserved w.lapse)
+    waits =
+        ap (λ es. option_map (λ (e : SeatEntry). e.seat) (find (λ (e : SeatEntry). bytes_eq e.session session) es)) w.entries
+        ∙ ap (λ b. option_map (λ (e : SeatEntry). e.seat) (cond b (Some own) None)) (bytes_eq_self session)
 
     unused : has_token r.seats fresh ≡ false
-    unused =
-        ap (λ xs. list_any (λ (x : Seat). bytes_eq x.token fresh) xs || list_any (λ (x : KeptSeat). bytes_eq x.token fresh) r.seats.kept) w.no_seats
-        ∙ ap (λ xs. list_any (λ (x : KeptSeat). bytes_eq x.token fresh) xs) w.none_kept
+    unused = ap (λ es. list_any (λ (e : SeatEntry). has_as_token fresh e.seat) es) w.entries
 
     taken : take_seat r.seats session fresh ≡ Ok seats
-    taken =
-        ap (λ b. cond (not b) (Err fault.NoSeat) (cond (has_token r.seats fresh) (Err fault.IdInUse) (Ok seats))) has
-        ∙ ap (λ b. cond b (Err fault.IdInUse) (Ok seats)) unused
+    taken = ap (take_of r.seats session fresh) waits ∙ ap (λ b. cond b (Err fault.IdInUse) (Ok seats)) unused
 
     entered : (after_enter r session None fresh).0 ≡ (opened_by r session fresh (out.Entered session) (Ok seats)).0
     entered =
-        ap (λ b. (cond b (opened_by r session fresh (out.Entered session) (take_seat r.seats session fresh)) (after_return r session None fresh)).0) has
+        ap (λ o. (cond (is_reservation o) (opened_by r session fresh (out.Entered session) (take_seat r.seats session fresh)) (after_return r session None fresh)).0) waits
         ∙ ap (λ x. (opened_by r session fresh (out.Entered session) x).0) taken
-
-    gone : seats.reserved ≡ []
-    gone =
-        ap (λ rs. filter (λ (x : Reservation). not (bytes_eq x.session session)) rs) w.reserved
-        ∙ ap (λ b. cond (not b) (own ∷ []) []) (bytes_eq_self session)
 
     by_session : (o : Option Session) → session_of r.sessions session ≡ o → is_some o ≡ true → is_connected_at (session_of (change_session session (at_stage Joining) r.sessions) session) ≡ true
     by_session None found there = absurd (cc)
@@ -102,7 +106,8 @@ frame_comes session r h = by_session (session_of r.sessions session) refl
   where
     changed : HasCome session (with_sessions r (change_session session acknowledged r.sessions))
     changed = record {
-      none_reserved = h.none_reserved;
+      token = h.token;
+      entries = h.entries;
       is_connected =
           ap is_connected_at (session_changed session session acknowledged r.sessions (λ s e. acknowledged_name s.stage s))
           ∙ (by_option (session_of r.sessions session) ∙ h.is_connected);
@@ -148,14 +153,14 @@ module _ (session : List ℕ) (r : RoomValue) where
       ∙ ap (option_map seen) (session_mapped session left r.sessions (λ s. refl))
 
   pub tick_waits : Waits session r → Waits session (after_tick r).0
-  tick_waits w = record { lapse = w.lapse; reserved = w.reserved; no_seats = w.no_seats; none_kept = w.none_kept; there = ap is_some found_after ∙ (by (session_of r.sessions session) ∙ w.there) }
+  tick_waits w = record { lapse = w.lapse; entries = w.entries; there = ap is_some found_after ∙ (by (session_of r.sessions session) ∙ w.there) }
     where
       by : (o : Option Session) → is_some (option_map seen (option_map left o)) ≡ is_some o
       by None = refl
       by (Some s) = refl
 
   pub tick_comes : HasCome session r → HasCome session (after_tick r).0
-  tick_comes h = record { none_reserved = h.none_reserved; is_connected = ap is_connected_at found_after ∙ (by (session_of r.sessions session) ∙ h.is_connected) }
+  tick_comes h = record { token = h.token; entries = h.entries; is_connected = ap is_connected_at found_after ∙ (by (session_of r.sessions session) ∙ h.is_connected) }
     where
       by : (o : Option Session) → is_connected_at (option_map seen (option_map left o)) ≡ is_connected_at o
       by None = refl

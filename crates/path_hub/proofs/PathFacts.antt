@@ -135,9 +135,7 @@ ask_fits p schema now None (Some c) held none is_held fits = absurd fits
 ask_fits p schema now None None held none is_held fits =
     record {
       lapse = now + p.def.seat;
-      reserved = ap (λ (r : RoomValue). r.seats.reserved) is_held;
-      no_seats = ap (λ (r : RoomValue). r.seats.seats) is_held;
-      none_kept = ap (λ (r : RoomValue). r.seats.kept) is_held;
+      entries = ap (λ (r : RoomValue). r.seats.entries) is_held;
       there = ap (λ (r : RoomValue). is_some (session_of r.sessions p.session)) is_held ∙ ap is_there (bytes_eq_self p.session);
     }
   where

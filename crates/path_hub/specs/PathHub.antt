@@ -8,6 +8,7 @@ use Rattle.std.specs.Option.{option_map}
 use Rattle.std.specs.Prelude.{IsTrue}
 use Rattle.room_model.specs.Limits.{most_places, longest_time}
 use Rattle.room_model.specs.declared.event.RoomEvent.{RoomEvent}
+use Rattle.room_model.specs.declared.seat.Seat.TheVariants as seat
 use Rattle.room_model.specs.Sessions.{session_of}
 use Rattle.room_model.specs.Room.{RoomValue, room_step}
 use Rattle.room_laws.specs.Places.{may_happen, is_connected_in}
@@ -41,14 +42,13 @@ hub_of p now room conn = record {
 -- the session is in the room, and its reservation is the only entry of the places
 pub record Waits (session : List ℕ) (r : RoomValue) : Type 0 where
   pub lapse : ℕ
-  pub reserved : r.seats.reserved ≡ record { session = session; lapse = lapse } ∷ []
-  pub no_seats : r.seats.seats ≡ []
-  pub none_kept : r.seats.kept ≡ []
+  pub entries : r.seats.entries ≡ record { session = session; seat = seat.Reserved lapse } ∷ []
   pub there : is_some (session_of r.sessions session) ≡ true
 
--- the session is connected, and nothing is reserved
+-- the session is connected, and its seat is the only entry of the places
 pub record HasCome (session : List ℕ) (r : RoomValue) : Type 0 where
-  pub none_reserved : r.seats.reserved ≡ []
+  pub token : List ℕ
+  pub entries : r.seats.entries ≡ record { session = session; seat = seat.Taken token } ∷ []
   pub is_connected : is_connected_in r session ≡ true
 
 -- the session's reservation is the room's only place in use, until it was opened; then it is connected

@@ -22,12 +22,6 @@ changed_sessions id f g same (c ∷ cs) =
     ap (λ s. s ∷ map session_of_client (change_client id f cs)) (head (bytes_eq c.id id))
     ∙ ap (λ ss. cond (bytes_eq c.id id) (g (session_of_client c)) (session_of_client c) ∷ ss) (changed_sessions id f g same cs)
 
-pub changed_ids : (id : List ℕ) (f : Client → Client) → ((c : Client) → (f c).id ≡ c.id) → (cs : List Client) → map (λ (c : Client). c.id) (change_client id f cs) ≡ map (λ (c : Client). c.id) cs
-changed_ids id f same [] = refl
-changed_ids id f same (c ∷ cs) =
-    let head : (b : Bool) → (cond b (f c) c).id ≡ c.id = elim [ true ↦ same c | false ↦ refl ] in
-    ap (λ n. n ∷ map (λ (c : Client). c.id) (change_client id f cs)) (head (bytes_eq c.id id)) ∙ ap (λ ns. c.id ∷ ns) (changed_ids id f same cs)
-
 -- what holds of each
 pub all_changed : (P : Client → Type 0) (id : List ℕ) (f : Client → Client) (cs : List Client) → AllByRecursion (λ (c : Client). bytes_eq c.id id ≡ true → P c → P (f c)) cs → All P cs → All P (change_client id f cs)
 all_changed P id f cs steps all = All-from_recursion P (change_client id f cs) (by cs steps (recursion_from_All P cs all))
@@ -157,11 +151,6 @@ module _ (id : List ℕ) (cs : List Client) where
   is_found (Some at) e = sym (ap is_some (found_there id cs (place_found at e).1).2)
 
 -- ---- a client in a place
-
-pub set_ids : (cs : List Client) (at : ℕ) (c c' : Client) → slice_get cs at ≡ Some c → c'.id ≡ c.id → map (λ (c : Client). c.id) (set cs at c') ≡ map (λ (c : Client). c.id) cs
-set_ids [] at c c' there same = refl
-set_ids (x ∷ xs) zero c c' there same = (let first : x ≡ c = cc in ap (λ n. n ∷ map (λ (c : Client). c.id) xs) (same ∙ ap (λ (c : Client). c.id) (sym first)))
-set_ids (x ∷ xs) (suc n) c c' there same = ap (λ ns. x.id ∷ ns) (set_ids xs n c c' there same)
 
 -- what was there stays where it is put again
 pub set_same : (cs : List Client) (at : ℕ) (c : Client) → slice_get cs at ≡ Some c → set cs at c ≡ cs

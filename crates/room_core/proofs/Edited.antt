@@ -11,11 +11,11 @@ use Rattle.room_laws.specs.Placed.{AreDistinct}
 use Rattle.live_state.specs.Live.{Live}
 use Rattle.view_counts.specs.Settled.{View}
 use Rattle.room_core.specs.declared.client.Client.{Client}
-use Rattle.room_core.specs.Entries.{Entries}
+use Rattle.room_model.specs.Seats.{Seats}
 use Rattle.room_core.specs.Steps.{EditTells, refused_outs}
 use Rattle.room_core.specs.Values.{room_with, session_of_client}
 use Rattle.std.specs.Option.{option_map}
-use Rattle.room_core.proofs.ClientLists.{is_named, place_found, place_missed, session_at, set_there, set_ids, set_same}
+use Rattle.room_core.proofs.ClientLists.{is_named, place_found, place_missed, session_at, set_there, set_same}
 
 -- ---- results
 
@@ -29,7 +29,7 @@ on_ok T (Err e) h = tt
 
 -- ---- a room with these clients
 
-module _ (def : RoomDef) (criteria : List (List ℕ)) (live : Live) (shared : View) (places : Entries) (cs : List Client) (id : List ℕ) (does : Session → Result Acted Refusal) where
+module _ (def : RoomDef) (criteria : List (List ℕ)) (live : Live) (shared : View) (places : Seats) (cs : List Client) (id : List ℕ) (does : Session → Result Acted Refusal) where
   abbrev room_at : List Client → RoomValue
   room_at clients = room_with def criteria live shared places clients
 
@@ -53,8 +53,7 @@ module _ (def : RoomDef) (criteria : List (List ℕ)) (live : Live) (shared : Vi
         let place = place_found id cs at found in
         let sessions : map session_of_client (set cs at d) ≡ change_session id (λ s. session_of_client d) (map session_of_client cs) =
         ap (λ k. map session_of_client (set cs k d)) place.0 ∙ set_there id cs d distinct place.1 in
-        ap (λ ids. let r : RoomValue = record (room_at (set cs at d)) { seats = record (room_at cs).seats { order = ids } } in r) (set_ids cs at c d there same)
-        ∙ ap (λ ss. with_sessions (room_at cs) ss) sessions
+        ap (λ ss. with_sessions (room_at cs) ss) sessions
 
     pub edited_room : AreDistinct (map session_of_client cs) → d.id ≡ c.id → (refusal : Option Refusal) → EditTells (does (session_of_client c)) c d refusal → room_at (set cs at d) ≡ (on_session (room_at cs) id does).0
     edited_room distinct same None tells =

@@ -1,5 +1,5 @@
 -- Clients that stand as at the last tick do so after each event but a tick.
-use Rattle.std.proofs.Common.{◌≡◌, ℕ, true, List, [], ◌∷◌, ◌++◌, map, set, Option, Some, Ok, get_or, refl, sym, ap, subst, ◌∙◌, arith}
+use Rattle.std.proofs.Common.{◌≡◌, ℕ, true, false, List, [], ◌∷◌, ◌++◌, map, set, Option, Some, Ok, get_or, sym, ap, subst, ◌∙◌, arith}
 use Rattle.std.specs.Prelude.{All}
 use Rattle.std.specs.Str.{bytes_eq}
 use Rattle.std.proofs.lemmas.List.Elements.{All-append, All-cons, All-set}
@@ -14,9 +14,8 @@ use Rattle.command_laws.specs.Later.{IsLater}
 use Rattle.command_laws.proofs.LaterAgain.{later_again}
 use Rattle.room_model.specs.declared.event.Stage.{Stage}
 use Rattle.room_model.specs.declared.event.Stage.TheVariants.{Reserved, Joining, Due, Live, Kept}
-use Rattle.room_model.specs.Sessions.{Session, session_of}
-use Rattle.room_laws.specs.Placed.{AreDistinct, is_reserved, stands}
-use Rattle.room_laws.proofs.PlacedSteps.{there_at}
+use Rattle.room_model.specs.Sessions.{Session, session_of, is_connected}
+use Rattle.room_laws.specs.Placed.{AreDistinct}
 use Rattle.live_state.specs.Live.{Live as State-now, schema_of, rows_of}
 use Rattle.view_counts.specs.Settled.{View, new_view}
 use Rattle.view_edits.specs.There.{are_there}
@@ -49,9 +48,17 @@ stands_more live shared cs more c is fresh s = record {
 -- ---- clients at another stage
 
 module _ (schema : Schema) (last rows : List RowEntry) where
-  -- a reserved one that joins
-  joins : (c : Client) → c.stage ≡ Reserved → ClientStands schema last rows c → ClientStands schema last rows (client_at Joining c)
-  joins c at s = record { view_stands = subst (λ (x : Stage). ViewStands x schema last c.members c.view) at s.view_stands; pairs = s.pairs }
+  -- the view of one without a connection was never settled
+  not_settled : (stage : Stage) (m : Members) (v : View) → is_connected stage ≡ false → ViewStands stage schema last m v → v.is_new ≡ true
+  not_settled Reserved m v apart stands = stands
+  not_settled Kept m v apart stands = stands
+  not_settled Joining m v apart stands = cc
+  not_settled Due m v apart stands = cc
+  not_settled Live m v apart stands = cc
+
+  -- such a one that joins
+  joins : (c : Client) → is_connected c.stage ≡ false → ClientStands schema last rows c → ClientStands schema last rows (client_at Joining c)
+  joins c apart s = record { view_stands = not_settled c.stage c.members c.view apart s.view_stands; pairs = s.pairs }
 
   -- one that is acknowledged
   acknowledges : (stage : Stage) (c : Client) → ViewStands stage schema last c.members c.view → ViewStands (acknowledged_stage stage) schema last c.members c.view
@@ -61,17 +68,10 @@ module _ (schema : Schema) (last rows : List RowEntry) where
   acknowledges Live c v = v
   acknowledges Kept c v = v
 
-reserved_stage : (stage : Stage) → is_reserved stage ≡ true → stage ≡ Reserved
-reserved_stage Reserved h = refl
-reserved_stage Joining h = cc
-reserved_stage Due h = cc
-reserved_stage Live h = cc
-reserved_stage Kept h = cc
-
--- the client of a reservation is opened
-pub stands_joined : (live : State-now) (shared : View) (cs : List Client) (id : List ℕ) → AreDistinct (map session_of_client cs) → stands is_reserved (map session_of_client cs) id ≡ true
-    → Stands live shared cs → Stands live shared (change_client id (client_at Joining) cs)
-stands_joined live shared cs id distinct is s = record {
+-- the client of a session without a connection is opened
+pub stands_joined : (live : State-now) (shared : View) (cs : List Client) (id : List ℕ) → AreDistinct (map session_of_client cs)
+    → (s : Session) × (session_of (map session_of_client cs) id ≡ Some s) × (is_connected s.stage ≡ false) → Stands live shared cs → Stands live shared (change_client id (client_at Joining) cs)
+stands_joined live shared cs id distinct found s = record {
   last = s.last;
   kept = s.kept;
   spelled = s.spelled;
@@ -80,14 +80,11 @@ stands_joined live shared cs id distinct is s = record {
   each = all_changed P id (client_at Joining) cs (all_named (λ (c : Client). P c → P (client_at Joining c)) id cs found.0 distinct found.1 each_joins) s.each;
 }
   where
-    found : (x : Session) × (session_of (map session_of_client cs) id ≡ Some x) × (is_reserved x.stage ≡ true)
-    found = there_at is_reserved (map session_of_client cs) id is
-
     P : Client → Type 0
     P c = ClientStands (schema_of live) s.last.rows (rows_of live) c
 
     each_joins : (c : Client) → session_of_client c ≡ found.0 → P c → P (client_at Joining c)
-    each_joins c same p = joins (schema_of live) s.last.rows (rows_of live) c (ap (λ (x : Session). x.stage) same ∙ reserved_stage found.0.stage found.2) p
+    each_joins c same p = joins (schema_of live) s.last.rows (rows_of live) c (ap (λ (x : Session). is_connected x.stage) same ∙ found.2) p
 
 -- a client is acknowledged
 pub stands_acknowledged : (live : State-now) (shared : View) (cs : List Client) (id : List ℕ) → Stands live shared cs → Stands live shared (change_client id (λ (c : Client). client_at (acknowledged_stage c.stage) c) cs)

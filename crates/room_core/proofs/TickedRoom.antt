@@ -25,7 +25,7 @@ use Rattle.room_core.specs.declared.parts.Parts.{Parts}
 use Rattle.room_core.specs.Costs.{session_cost, swept_cost}
 use Rattle.room_core.specs.Stands.{Stands, ViewStands, ClientStands}
 use Rattle.room_core.specs.Ticks.{AllThere, client_swept, ticked_client}
-use Rattle.room_core.specs.Values.{seats_with, session_of_client}
+use Rattle.room_core.specs.Values.{session_of_client}
 
 -- ---- before the frames
 
@@ -83,24 +83,6 @@ ticked_swept : (schema : Schema) (rows : List RowEntry) (cs : List Client) → m
 ticked_swept schema rows [] = refl
 ticked_swept schema rows (c ∷ cs) = ap (λ ss. ticked_client schema rows (client_swept rows c) ∷ ss) (ticked_swept schema rows cs)
 
--- a tick keeps the names
-id_kept : (stage : Stage) (rows : List RowEntry) (s : Session) → (ticked_at stage rows s).id ≡ s.id
-id_kept Due rows s = refl
-id_kept Live rows s = refl
-id_kept Reserved rows s = refl
-id_kept Joining rows s = refl
-id_kept Kept rows s = refl
-
-ids_kept : (schema : Schema) (rows : List RowEntry) (cs : List Client) → map (λ (s : Session). s.id) (map (ticked_client schema rows) (map (client_swept rows) cs)) ≡ map (λ (c : Client). c.id) cs
-ids_kept schema rows [] = refl
-ids_kept schema rows (c ∷ cs) =
-    ap (λ n. n ∷ map (λ (s : Session). s.id) (map (ticked_client schema rows) (map (client_swept rows) cs))) (id_kept c.stage (permitted schema rows (live_members rows c.members).now) (session_of_client (client_swept rows c)))
-    ∙ ap (λ ns. c.id ∷ ns) (ids_kept schema rows cs)
-
-ids_of : (cs : List Client) → map (λ (c : Client). c.id) cs ≡ map (λ (s : Session). s.id) (map session_of_client cs)
-ids_of [] = refl
-ids_of (c ∷ cs) = ap (λ ns. c.id ∷ ns) (ids_of cs)
-
 cost_swept : (schema : Schema) (rows : List RowEntry) (cs : List Client) → sum_by (λ (c : Client). session_cost schema rows (session_of_client c)) (map (client_swept rows) cs)
     ≡ sum_by (session_cost schema rows) (map (session_swept rows) (map session_of_client cs))
 cost_swept schema rows cs =
@@ -124,11 +106,6 @@ module _ (t u : TableState) (is : t ≡ u) (clients swept : List Client) (swept_
       ∙ ticked_swept t.schema t.state.rows clients
       ∙ ap (λ (x : TableState). map (λ (s : Session). ticked_at s.stage (permitted x.schema x.state.rows s.members.now) s) (map (session_swept x.state.rows) (map session_of_client clients))) is
 
-  pub tick_ids : (after : List Client) → map session_of_client after ≡ map (ticked_client t.schema t.state.rows) swept → map (λ (c : Client). c.id) after ≡ map (λ (c : Client). c.id) clients
-  tick_ids after h =
-      ids_of after ∙ ap (map (λ (s : Session). s.id)) (h ∙ ap (map (ticked_client t.schema t.state.rows)) swept_is)
-      ∙ ids_kept t.schema t.state.rows clients
-
   -- the steps: of sweeping, of the shared view, and of the clients
   pub tick_steps : (places : ℕ) (shared0 shared1 : List RowEntry) (steps swept_at settled_at encoded_at ticked_at : ℕ) → shared1 ≡ shared u.schema u.state.rows → swept_at ≤ steps + places
       → settled_at ≤ swept_at + (place_count t.state.rows + 0) → encoded_at ≤ settled_at + (place_count shared0 + place_count shared1)
@@ -143,18 +120,18 @@ module _ (t u : TableState) (is : t ≡ u) (clients swept : List Client) (swept_
       omega (arith, rows, view, all, sweeps, settles, encodes, ticks)
 
 -- the value of a room of which a tick changed the table, the shared rows and the sessions
-abbrev pub room_with : Parts → TableState → List RowEntry → List (List ℕ) → List Session → RoomValue
-room_with p t rows ids ss = record {
+abbrev pub room_with : Parts → TableState → List RowEntry → List Session → RoomValue
+room_with p t rows ss = record {
   schema = t.schema;
   def = p.def;
   criteria = p.criteria;
   state = t.state;
   shared = rows;
-  seats = seats_with p.def.max p.places.seats p.places.reserved ids;
+  seats = p.places;
   sessions = ss;
 }
 
-pub same_room : (p : Parts) (t u : TableState) (rows other : List RowEntry) (ids names : List (List ℕ)) (ss sessions : List Session) → t ≡ u → rows ≡ other → ids ≡ names → ss ≡ sessions
-    → room_with p t rows ids ss ≡ room_with p u other names sessions
-same_room p t u rows other ids names ss sessions table shared order all =
-    ap (λ x. room_with p x rows ids ss) table ∙ ap (λ x. room_with p u x ids ss) shared ∙ ap (λ x. room_with p u other x ss) order ∙ ap (λ x. room_with p u other names x) all
+pub same_room : (p : Parts) (t u : TableState) (rows other : List RowEntry) (ss sessions : List Session) → t ≡ u → rows ≡ other → ss ≡ sessions
+    → room_with p t rows ss ≡ room_with p u other sessions
+same_room p t u rows other ss sessions table shared all =
+    ap (λ x. room_with p x rows ss) table ∙ ap (λ x. room_with p u x ss) shared ∙ ap (λ x. room_with p u other x) all

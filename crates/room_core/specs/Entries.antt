@@ -1,28 +1,39 @@
--- The places of a room that are taken.
-use Rattle.std.specs.Prelude.{ℕ, ◌+◌, not, List, [], ◌∷◌, ◌++◌, length, filter}
-use Rattle.std.specs.Str.{bytes_eq}
-use Rattle.room_model.specs.Seats.{Seat, Reservation}
+-- What a call of a room's places does, and what an opening makes of them and gives.
+use Rattle.std.specs.Prelude.{◌≡◌, ℕ, List, [], ◌∷◌, Option, Some, None, Result, Ok, Err, if◌then◌else◌}
+use Rattle.room_model.specs.declared.event.RoomOut.{RoomOut}
+use Rattle.room_model.specs.declared.event.RoomOut.TheVariants as out
+use Rattle.room_model.specs.declared.seat.SeatFault.{SeatFault}
+use Rattle.room_model.specs.declared.seat.SeatFault.TheVariants.{Locked, Full, NoSeat, WrongToken, IdInUse}
+use Rattle.room_model.specs.Seats.{Seats, has_reservation}
+use Rattle.room_model.specs.Ledger.{take_seat, retake}
+use Rattle.room_model.specs.Room.{join_frame}
 
--- the seats and the reservations
-pub record Entries : Type 0 where
-  pub seats : List Seat
-  pub reserved : List Reservation
+-- an accepted call makes of the places what it is said to make; a refused one answers its cause, and changes nothing
+abbrev pub Does : Result Seats SeatFault → Seats → Seats → Result (Unit {0}) SeatFault → Type 0
+Does (Ok after) old new (Ok done) = new ≡ after
+Does (Ok after) old new (Err g) = ⊥
+Does (Err f) old new (Ok done) = ⊥
+Does (Err f) old new (Err g) = (g ≡ f) × (new ≡ old)
 
--- none
-abbrev pub no_entries : Entries
-no_entries = record { seats = []; reserved = [] }
+-- a reservation is taken, else a kept seat by its token
+abbrev pub returned : Seats → List ℕ → Option (List ℕ) → List ℕ → Result Seats SeatFault
+returned s session None fresh = Err NoSeat
+returned s session (Some token) fresh = retake s session token fresh
 
--- how many there are
-abbrev pub entry_count : Entries → ℕ
-entry_count es = length es.seats + length es.reserved
+abbrev pub entered : Seats → List ℕ → Option (List ℕ) → List ℕ → Result Seats SeatFault
+entered s session token fresh = if has_reservation s session then take_seat s session fresh else returned s session token fresh
 
--- with a reservation more
-abbrev pub reserved_in : List ℕ → ℕ → Entries → Entries
-reserved_in session lapse es = record { seats = es.seats; reserved = es.reserved ++ record { session = session; lapse = lapse } ∷ [] }
+-- what an opening tells first that isn't refused, and what it gives
+abbrev pub told_first : Seats → List ℕ → RoomOut
+told_first s session = if has_reservation s session then out.Entered session else out.Back session
 
--- with a seat in place of a session's reservation
-abbrev pub taken_in : List ℕ → List ℕ → Entries → Entries
-taken_in session fresh es = record {
-  seats = es.seats ++ record { session = session; token = fresh } ∷ [];
-  reserved = filter (λ (r : Reservation). not (bytes_eq r.session session)) es.reserved;
-}
+abbrev pub opening_outs : Seats → List ℕ → List ℕ → List RoomOut
+opening_outs s session fresh = told_first s session ∷ out.Send session (join_frame fresh) ∷ []
+
+-- what one gives that is refused
+abbrev pub refused_opening : List ℕ → SeatFault → RoomOut
+refused_opening session IdInUse = out.TokenInUse session
+refused_opening session Locked = out.NoSeat session
+refused_opening session Full = out.NoSeat session
+refused_opening session NoSeat = out.NoSeat session
+refused_opening session WrongToken = out.NoSeat session

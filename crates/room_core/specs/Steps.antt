@@ -41,7 +41,7 @@ acknowledged_stage Kept = Kept
 
 -- the places are as they were
 abbrev pub SamePlaces : Parts → Parts → Type 0
-SamePlaces old new = (new.places ≡ old.places) × (new.def ≡ old.def)
+SamePlaces old new = new.places ≡ old.places
 
 -- what a fault of a command gives: want of memory nothing, any other its refusal
 pub record FaultTells (f : TableFault) (r : Result (List RoomOut) Memory) : Type 0 where

@@ -1,12 +1,11 @@
 -- The value of a room: what its parts come to.
-use Rattle.std.specs.Prelude.{ℕ, Bool, false, List, [], map}
-use Rattle.room_model.specs.Seats.{Seats, Seat, Reservation}
+use Rattle.std.specs.Prelude.{ℕ, Bool, List, [], map}
+use Rattle.room_model.specs.Seats.{Seats}
 use Rattle.room_model.specs.Sessions.{Session}
 use Rattle.room_model.specs.Room.{RoomValue}
 use Rattle.room_model.specs.declared.definition.RoomDef.{RoomDef}
 use Rattle.live_state.specs.Live.{Live, schema_of}
 use Rattle.view_counts.specs.Settled.{View, view_now}
-use Rattle.room_core.specs.Entries.{Entries}
 use Rattle.room_core.specs.declared.client.Client.{Client}
 use Rattle.room_core.specs.declared.parts.Parts.{Parts}
 
@@ -19,19 +18,15 @@ pub record Held : Type 0 where
 abbrev pub session_of_client : Client → Session
 session_of_client c = record { id = c.id; stage = c.stage; members = c.members; permitted = view_now c.view; queue = []; keep = c.keep }
 
--- the places; none is kept, and no act locks them
-abbrev pub seats_with : ℕ → List Seat → List Reservation → List (List ℕ) → Seats
-seats_with max seats reserved order = record { max = max; locked = false; seats = seats; reserved = reserved; kept = []; order = order }
-
 -- the room of these parts
-abbrev pub room_with : RoomDef → List (List ℕ) → Live → View → Entries → List Client → RoomValue
-room_with def criteria live shared places clients = record {
+abbrev pub room_with : RoomDef → List (List ℕ) → Live → View → Seats → List Client → RoomValue
+room_with def criteria live shared seats clients = record {
   schema = schema_of live;
   def = def;
   criteria = criteria;
   state = live.table.state;
   shared = view_now shared;
-  seats = seats_with def.max places.seats places.reserved (map (λ (c : Client). c.id) clients);
+  seats = seats;
   sessions = map session_of_client clients;
 }
 

@@ -1,5 +1,6 @@
 //! What a room consists of.
-ghost use Rattle.std.specs.Prelude.{◌≡◌, None, false};
+ghost use Rattle.std.specs.Prelude.{◌≡◌};
+ghost use Rattle.room_model.specs.Ledger.{kept_by};
 
 use crate::client::Client;
 use crate::places::Places;
@@ -26,17 +27,17 @@ pub struct Parts {
 }
 
 impl Parts {
-    /// Whether the room is locked. Nothing locks it.
+    /// Whether an act locked the room.
     pub fn is_locked(&self) -> bool
-        ensures { result ≡ false }
+        ensures { result ≡ self.now.places.locked }
     {
-        false
+        self.places.locked()
     }
 
-    /// The session whose seat is kept under a token. No seat is kept.
-    pub fn kept_by(&self, _token: Id) -> Option<Id>
-        ensures { result ≡ None }
+    /// The session whose kept seat has this token.
+    pub fn kept_by(&self, token: Id) -> Option<Id>
+        ensures { result ≡ kept_by self.now.places token }
     {
-        None
+        self.places.kept_by(token)
     }
 }

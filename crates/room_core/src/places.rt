@@ -1,122 +1,182 @@
-//! The places of a room: its seats and reservations.
-ghost use Rattle.std.specs.Prelude.{◌≡◌, ◌≤◌, not, filter, is_ok, if◌then◌else◌};
+//! The places of a room: which sessions have one.
+ghost use Rattle.std.specs.Prelude.{◌≡◌, ◌≤◌, Some, map, is_ok, if◌then◌else◌};
 ghost use Rattle.std.specs.List.{list_any};
-ghost use Rattle.std.specs.Str.{bytes_eq};
-ghost use Rattle.room_model.specs.Seats.{Seat, Reservation as Reserving};
-ghost use Rattle.room_core.specs.Entries.{entry_count, no_entries, reserved_in, taken_in};
+ghost use Rattle.room_model.specs.declared.seat.Seat.TheVariants.{Taken};
+ghost use Rattle.room_model.specs.Ledger.{has_as_token, has_token, is_kept_by, kept_by, retake, seated_with, take_seat};
+ghost use Rattle.room_model.specs.Seats.{in_use, is_kept_seat, new_seats, reserved_seat, seat_of, seated_entry};
+ghost use Rattle.room_core.specs.Entries.{Does};
 
 use lists::Memory;
+use room_model::{Seat, SeatEntry, SeatFault};
 use schema_model::Id;
 use std::alloc::Global;
 use std::marker::Model;
 
-/// A seat: its session, and its token.
-#[derive(Debug, Drop)]
-struct Taken {
-    session: Id,
-    token: Id,
-}
-
-impl Model for Taken {
-    ghost use Rattle.room_model.specs.Seats.{Seat};
-
-    ghost Value = { Seat };
-
-    ghost view = { λ t. record { session = t.session; token = t.token } };
-}
-
-/// A reservation: its session, and the moment at which it lapses.
-#[derive(Debug, Drop)]
-struct Reserved {
-    session: Id,
-    lapse: u64,
-}
-
-impl Model for Reserved {
-    ghost use Rattle.room_model.specs.Seats.{Reservation};
-
-    ghost Value = { Reservation };
-
-    ghost view = { λ r. record { session = r.session; lapse = r.lapse } };
-}
-
-/// The seats and the reservations of a room, each in the order in which they were taken.
+/// How many places there are, and the sessions that have one, in the order of reserving.
 #[derive(Debug, Drop)]
 pub struct Places {
-    seats: Vec<Taken>,
-    reserved: Vec<Reserved>,
+    max: u32,
+    locked: bool,
+    entries: Vec<SeatEntry>,
 }
 
 impl Model for Places {
-    ghost use Rattle.room_core.specs.Entries.{Entries};
+    ghost use Rattle.room_model.specs.Seats.{Seats};
 
-    ghost Value = { Entries };
+    ghost Value = { Seats };
 
-    ghost view = { λ p. record { seats = p.seats.items; reserved = p.reserved.items } };
+    ghost view = { λ p. record { max = p.max; locked = p.locked; entries = p.entries.items } };
 }
 
 impl Places {
-    /// No places are taken. It takes no memory.
-    pub fn new(alloc: Global) -> Places
-        ensures { result ≡ no_entries }
+    /// So many places, of which none is taken. It takes no memory.
+    pub fn new(alloc: Global, max: u32) -> Places
+        ensures { result ≡ new_seats max }
     {
         Places {
-            seats: Vec::new(alloc),
-            reserved: Vec::new(alloc),
+            max,
+            locked: false,
+            entries: Vec::new(alloc),
         }
     }
 
-    /// How many are taken, where they are at most so many.
-    pub fn count(&self, _most: u32) -> u32
-        requires { entry_count self.now ≤ _most }
-        ensures { result ≡ entry_count self.now }
+    /// How many places there are.
+    pub fn max(&self) -> u32
+        ensures { result ≡ self.now.max }
     {
-        (self.seats.len() + self.reserved.len()) as u32
+        self.max
     }
 
-    /// Whether the session has a reservation.
-    pub fn has_reservation(&self, session: Id) -> bool
-        ensures { result ≡ list_any (λ (r : Reserving). bytes_eq r.session session) self.now.reserved }
+    /// Whether an act locked them.
+    pub fn locked(&self) -> bool
+        ensures { result ≡ self.now.locked }
     {
-        self.reserved.iter().any(|entry| entry.session == session)
+        self.locked
     }
 
-    /// Whether the token is a seat's.
-    pub fn has_token(&self, token: Id) -> bool
-        ensures { result ≡ list_any (λ (s : Seat). bytes_eq s.token token) self.now.seats }
+    /// How many are taken, where they are not too many.
+    pub fn count(&self) -> u32
+        requires { in_use self.now ≤ self.now.max }
+        ensures { result ≡ in_use self.now }
     {
-        self.seats.iter().any(|entry| entry.token == token)
+        self.entries.len().min(self.max as usize) as u32
+    }
+
+    /// What a session has.
+    pub fn seat_of(&self, session: Id) -> Option<Seat>
+        ensures { result ≡ seat_of self.now session }
+    {
+        match self.entries.iter().find(|entry| entry.session == session) {
+            Some(entry) => Some(entry.seat),
+            None => None,
+        }
+    }
+
+    /// The session whose kept seat has this token.
+    pub fn kept_by(&self, token: Id) -> Option<Id>
+        ensures { result ≡ kept_by self.now token }
+    {
+        match self
+            .entries
+            .iter()
+            .find(|entry| is_kept_by(&entry.seat, token))
+        {
+            Some(entry) => Some(entry.session),
+            None => None,
+        }
+    }
+
+    // Whether the token is that of a seat or a kept seat.
+    fn has_token(&self, token: Id) -> bool
+        ensures { result ≡ has_token self.now token }
+    {
+        self.entries
+            .iter()
+            .any(|entry| has_as_token(&entry.seat, token))
     }
 
     /// Adds a reservation. An `Err` changes nothing.
     pub fn reserve(&mut self, session: Id, lapse: u64) -> Result<(), Memory>
-        ensures { self.new ≡ (if is_ok result then reserved_in session lapse self.old else self.old) }
+        ensures { self.new ≡ (if is_ok result then reserved_seat self.old session lapse else self.old) }
     {
-        self.reserved.push(Reserved { session, lapse })?;
+        let seat = Seat::Reserved(lapse);
+        self.entries.push(SeatEntry { session, seat })?;
         Ok(())
     }
 
-    /// A session gets a seat with a fresh token, and its reservation goes. An `Err` changes nothing.
-    pub fn take(&mut self, session: Id, fresh: Id) -> Result<(), Memory>
-        ensures { self.new ≡ (if is_ok result then taken_in session fresh self.old else self.old) }
+    /// The session's reservation becomes a seat with a fresh token.
+    pub fn take(&mut self, session: Id, fresh: Id) -> Result<(), SeatFault>
+        ensures { Does (take_seat self.old session fresh) self.old self.new result }
     {
-        let token = fresh;
-        self.seats.push(Taken { session, token })?;
-        without(&mut self.reserved, session);
+        let Some(Seat::Reserved(_)) = self.seat_of(session) else {
+            return Err(SeatFault::NoSeat);
+        };
+        self.seat(session, fresh)
+    }
+
+    /// The session's kept seat becomes a seat with a fresh token.
+    pub fn retake(&mut self, session: Id, token: Id, fresh: Id) -> Result<(), SeatFault>
+        ensures { Does (retake self.old session token fresh) self.old self.new result }
+    {
+        let Some(seat) = self.seat_of(session) else {
+            return Err(SeatFault::NoSeat);
+        };
+        if !is_kept(&seat) {
+            return Err(SeatFault::NoSeat);
+        }
+        if !is_kept_by(&seat, token) {
+            return Err(SeatFault::WrongToken);
+        }
+        self.seat(session, fresh)
+    }
+
+    // A session has a seat with a fresh token from now on.
+    fn seat(&mut self, session: Id, fresh: Id) -> Result<(), SeatFault>
+        ensures { Does (seated_with self.old session fresh) self.old self.new result }
+    {
+        if self.has_token(fresh) {
+            return Err(SeatFault::IdInUse);
+        }
+        set_token(&mut self.entries, session, fresh);
         Ok(())
     }
 }
 
-// Whether a reservation is of a session.
-fn is_of(entry: &Reserved, session: Id) -> bool
-    ensures { result ≡ bytes_eq entry.now.session session }
+// Whether a token is that of a seat or a kept seat.
+fn has_as_token(seat: &Seat, token: Id) -> bool
+    ensures { result ≡ has_as_token token seat.now }
 {
-    entry.session == session
+    match seat {
+        Seat::Reserved(_) => false,
+        Seat::Taken(own) => *own == token,
+        Seat::Kept(own, _) => *own == token,
+    }
 }
 
-// Takes the reservations of a session out.
-fn without(reserved: &mut Vec<Reserved>, session: Id)
-    ensures { reserved.new.items ≡ filter (λ (r : Reserving). not (bytes_eq r.session session)) reserved.old.items }
+// Whether it is a kept seat.
+fn is_kept(seat: &Seat) -> bool
+    ensures { result ≡ is_kept_seat (Some seat.now) }
 {
-    reserved.retain(|entry| !is_of(entry, session));
+    matches!(seat, Seat::Kept(_, _))
+}
+
+// Whether a token is that of a kept seat.
+fn is_kept_by(seat: &Seat, token: Id) -> bool
+    ensures { result ≡ is_kept_by token seat.now }
+{
+    match seat {
+        Seat::Reserved(_) | Seat::Taken(_) => false,
+        Seat::Kept(own, _) => *own == token,
+    }
+}
+
+// A session has a seat with this token.
+fn set_token(entries: &mut Vec<SeatEntry>, session: Id, token: Id)
+    ensures { entries.new.items ≡ map (seated_entry session (Taken token)) entries.old.items }
+{
+    for entry in entries.iter_mut() {
+        if entry.session == session {
+            entry.seat = Seat::Taken(token);
+        }
+    }
 }

@@ -148,7 +148,7 @@ impl RoomLike for Room {
             none: Members::new(alloc)?,
             shared: ViewCounts::new(alloc, schema)?,
             live: LiveState::new(alloc, schema.copy(alloc)?)?,
-            places: Places::new(alloc),
+            places: Places::new(alloc, def.max),
             clients: Vec::new(alloc),
         };
         parts.live.know_rows();
@@ -175,11 +175,11 @@ impl RoomLike for Room {
     }
 
     fn in_use(&self) -> u32 {
-        self.parts.places.count(self.parts.def.max)
+        self.parts.places.count()
     }
 
     fn max(&self) -> u32 {
-        self.parts.def.max
+        self.parts.places.max()
     }
 
     fn has_session(&self, session: Id) -> bool {

@@ -1,3 +1,4 @@
+pub mod AlikeLists
 pub mod LedgerPlaces
 mod LedgerRows
 pub mod RoomPlaces

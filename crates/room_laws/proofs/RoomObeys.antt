@@ -1,7 +1,7 @@
 -- Each event of a room keeps the laws of steps.
 use Rattle.std.proofs.Common.{◌≡◌, ℕ, zero, suc, ◌+◌, Bool, true, false, not, cond, ◌&&◌, ◌||◌, List, [], ◌∷◌, ◌++◌, map, filter, length, Option, Some, None, is_some, Result, Ok, Err, refl, sym, ap, subst, ◌∙◌, ◌≤◌, arith}
 use Rattle.std.specs.Prelude.{nat_lt, nat_le, IfOk, IfSome}
-use Rattle.std.specs.List.{find, list_any, list_all, flat_map}
+use Rattle.std.specs.List.{list_any, list_all, flat_map}
 use Rattle.std.specs.Option.{option_map, option_map_or, option_or}
 use Rattle.std.proofs.lemmas.Bool.{and_parts, and_from}
 use Rattle.std.specs.Str.{bytes_eq}
@@ -10,8 +10,8 @@ use Rattle.schema_model.specs.Classes.{Schema}
 use Rattle.schema_model.specs.declared.place.Pair.{Pair}
 use Rattle.state_model.specs.declared.row.RowEntry.{RowEntry}
 use Rattle.state_model.specs.declared.command.TableFault.TheVariants.{NoRef}
-use Rattle.state_model.specs.Rows.{is_live}
-use Rattle.state_model.specs.Members.{Members, view_added, view_removed, is_view_full}
+use Rattle.state_model.specs.Rows.{is_live, root_alone}
+use Rattle.state_model.specs.Members.{Members, no_members, view_added, view_removed, is_view_full}
 use Rattle.state_model.specs.Reached.{times}
 use Rattle.state_model.specs.State.{State, swept}
 use Rattle.state_model.specs.Commands.{do_command}
@@ -34,15 +34,19 @@ use Rattle.room_model.specs.declared.event.Stage.TheVariants.{Reserved, Joining,
 use Rattle.room_model.specs.declared.refusal.Refusal.{Refusal}
 use Rattle.room_model.specs.declared.refusal.Refusal.TheVariants as refusal
 use Rattle.room_model.specs.declared.seat.SeatFault.TheVariants as fault
-use Rattle.room_model.specs.Seats.{Seats, Seat, in_use, Reservation, KeptSeat, has_reservation, taken_seat}
-use Rattle.room_model.specs.Ledger.{Lapse, seat_of, kept_of, has_token, take_seat, retake_kept, retaken_seat, keep, lapse_of, due_at, due_entries, earlier, first_due, expired, expire}
+use Rattle.room_model.specs.declared.seat.Seat.{Seat}
+use Rattle.room_model.specs.declared.seat.Seat.TheVariants as seat
+use Rattle.room_model.specs.declared.seat.SeatEntry.{SeatEntry}
+use Rattle.room_model.specs.Seats.{Seats, in_use, seat_of, seated, is_reservation, is_taken_seat, is_kept_seat, has_reservation}
+use Rattle.room_model.specs.Ledger.{Lapse, has_token, seated_with, take_of, take_seat, retake_of, keep, lapse_of, due_at, due_entries, earlier, first_due, expired, expire}
 use Rattle.room_model.specs.Sessions.{Session, Acted, session_of, change_session, is_connected, at_stage, with_queue, with_members, with_keep, queued_for, told_at, told_to, unless_reserved, if_room, view_added_to, view_removed_from, keep_set}
 use Rattle.room_model.specs.Room.{RoomValue, new_room, room_step, opened_by, join_frame, after_enter, after_return, where_connected, after_read, after_drop, accepted, dropped, after_answer, acted_on, after_act, after_tick, tick_outs, frames_at, session_swept, outs_after, told_all, after_kick, with_sessions, with_seats, ended, after_lapse, lapse_outs, after_moment}
-use Rattle.room_laws.specs.Placed.{Placed, AreDistinct, stands, is_reserved, is_kept}
+use Rattle.room_laws.specs.Placed.{Placed, AreDistinct, stands, is_reserved, is_kept, standing, standing_of}
 use Rattle.room_laws.specs.Places.{may_happen, room_after}
 use Rattle.room_laws.specs.StepLaws.{StepLaws, is_answer, is_entry, is_loss, is_end, goes_to, opens, loses, connected, RoomsObey}
-use Rattle.room_laws.proofs.SessionLists.{named_key, any_named, distinct_mapped}
-use Rattle.room_laws.proofs.PlacedSteps.{mapped_stands, taken_room, changed_other, changed_own, there_at, stage_is, stands_by, reserved_alone, kept_alone, reserve_placed, ended_placed}
+use Rattle.room_laws.proofs.AlikeLists.{Alike, first_alike, rest_alike, has_seat, has_reserved, has_kept}
+use Rattle.room_laws.proofs.SessionLists.{named_key, named_more, distinct_mapped}
+use Rattle.room_laws.proofs.PlacedSteps.{mapped_stands, taken_room, changed_other, changed_own, there_at, stage_is, stands_by, reserved_alone, kept_alone, ended_placed}
 use Rattle.room_laws.proofs.RoomPlaced.{step_placed, read_placed, rooms_stay_placed}
 use Rattle.room_laws.proofs.StepFacts.{any_both, laws, quiet_laws, ended_connected, dropped_connected, each_told, each_none, none_counted}
 
@@ -57,8 +61,8 @@ or_twice true = refl
 or_twice false = refl
 
 -- where the seats stay as they are, so do the connections
-same_connected : (r t : RoomValue) (id : List ℕ) → Placed r → Placed t → is_some (seat_of t.seats id) ≡ is_some (seat_of r.seats id) → connected t id ≡ connected r id
-same_connected r t id p q same = sym (q.seated id) ∙ (same ∙ p.seated id)
+same_connected : (r t : RoomValue) (id : List ℕ) → Placed r → Placed t → is_taken_seat (seat_of t.seats id) ≡ is_taken_seat (seat_of r.seats id) → connected t id ≡ connected r id
+same_connected r t id p q same = sym (has_seat t id q) ∙ (same ∙ has_seat r id p)
 
 -- ---- an opening
 
@@ -117,48 +121,66 @@ accepted_laws r session token fresh seats told s found apart answer entry end go
     after : connected (taken_room r session seats) session ≡ true
     after = stands_by is_connected (change_session session (at_stage Joining) r.sessions) session Joining (changed_own session (at_stage Joining) r.sessions s (λ s e. refl) found)
 
-take_laws : (r : RoomValue) (session : List ℕ) (token : Option (List ℕ)) (fresh : List ℕ) → Placed r → has_reservation r.seats session ≡ true → StepLaws r (event.Enter session token fresh) (opened_by r session fresh (out.Entered session) (take_seat r.seats session fresh))
-take_laws r session token fresh p has =
-    let found = there_at is_reserved r.sessions session (sym (p.reserved session) ∙ has) in
-    let go : (b c : Bool) → StepLaws r (event.Enter session token fresh) (opened_by r session fresh (out.Entered session) (cond (not b) (Err fault.NoSeat) (cond c (Err fault.IdInUse) (Ok (taken_seat r.seats session fresh))))) = elim [
-      | true ↦ elim [
-        | true ↦ refused_laws r session token fresh (out.TokenInUse session) refl (λ id. refl) (λ id. refl) (λ id. refl)
-        | false ↦ accepted_laws r session token fresh (taken_seat r.seats session fresh) (out.Entered session) found.0 found.1 (reserved_alone found.0.stage found.2).0 refl (λ id. refl) (λ id. refl) (λ id. refl)
-      ]
-      | false ↦ λ c. refused_laws r session token fresh (out.NoSeat session) refl (λ id. refl) (λ id. refl) (λ id. refl)
-    ] in go (has_reservation r.seats session) (has_token r.seats fresh)
+-- a session that has no connection gets a seat, or its fresh token is in use
+opened_laws : (r : RoomValue) (session : List ℕ) (token : Option (List ℕ)) (fresh : List ℕ) (told : RoomOut) (s : Session) → session_of r.sessions session ≡ Some s → is_connected s.stage ≡ false
+    → is_answer told ≡ true → ((id : List ℕ) → is_entry id told ≡ bytes_eq session id) → ((id : List ℕ) → is_end id told ≡ false) → ((id : List ℕ) → goes_to id told ≡ false)
+    → StepLaws r (event.Enter session token fresh) (opened_by r session fresh told (seated_with r.seats session fresh))
+opened_laws r session token fresh told s found apart answer entry end goes =
+    let go : (c : Bool) → StepLaws r (event.Enter session token fresh) (opened_by r session fresh told (cond c (Err fault.IdInUse) (Ok (seated r.seats session (seat.Taken fresh))))) = elim [
+      | true ↦ refused_laws r session token fresh (out.TokenInUse session) refl (λ id. refl) (λ id. refl) (λ id. refl)
+      | false ↦ accepted_laws r session token fresh (seated r.seats session (seat.Taken fresh)) told s found apart answer entry end goes
+    ] in go (has_token r.seats fresh)
 
-retake_laws : (r : RoomValue) (session token fresh : List ℕ) (o : Option KeptSeat) → Placed r → kept_of r.seats session ≡ o → StepLaws r (event.Enter session (Some token) fresh) (opened_by r session fresh (out.Back session) (retake_kept r.seats session token fresh o))
-retake_laws r session token fresh None p at = refused_laws r session (Some token) fresh (out.NoSeat session) refl (λ id. refl) (λ id. refl) (λ id. refl)
-retake_laws r session token fresh (Some x) p at =
-    let found = there_at is_kept r.sessions session (sym (p.kept session) ∙ ap is_some at) in
-    let go : (b c : Bool) → StepLaws r (event.Enter session (Some token) fresh) (opened_by r session fresh (out.Back session) (cond (not b) (Err fault.WrongToken) (cond c (Err fault.IdInUse) (Ok (retaken_seat r.seats session fresh))))) = elim [
-      | true ↦ elim [
-        | true ↦ refused_laws r session (Some token) fresh (out.TokenInUse session) refl (λ id. refl) (λ id. refl) (λ id. refl)
-        | false ↦ accepted_laws r session (Some token) fresh (retaken_seat r.seats session fresh) (out.Back session) found.0 found.1 (kept_alone found.0.stage found.2).0 refl (λ id. refl) (λ id. refl) (λ id. refl)
-      ]
-      | false ↦ λ c. refused_laws r session (Some token) fresh (out.NoSeat session) refl (λ id. refl) (λ id. refl) (λ id. refl)
-    ] in go (bytes_eq x.token token) (has_token r.seats fresh)
+none_laws : (r : RoomValue) (session : List ℕ) (token : Option (List ℕ)) (fresh : List ℕ) → StepLaws r (event.Enter session token fresh) (r, out.NoSeat session ∷ [])
+none_laws r session token fresh = refused_laws r session token fresh (out.NoSeat session) refl (λ id. refl) (λ id. refl) (λ id. refl)
+
+take_laws : (r : RoomValue) (session : List ℕ) (token : Option (List ℕ)) (fresh : List ℕ) (o : Option Seat) → Placed r → seat_of r.seats session ≡ o → StepLaws r (event.Enter session token fresh) (opened_by r session fresh (out.Entered session) (take_of r.seats session fresh o))
+take_laws r session token fresh (Some (seat.Reserved lapse)) p at =
+    let found = there_at is_reserved r.sessions session (sym (has_reserved r session p) ∙ ap is_reservation at) in
+    opened_laws r session token fresh (out.Entered session) found.0 found.1 (reserved_alone found.0.stage found.2).0 refl (λ id. refl) (λ id. refl) (λ id. refl)
+take_laws r session token fresh (Some (seat.Taken t)) p at = none_laws r session token fresh
+take_laws r session token fresh (Some (seat.Kept t lapse)) p at = none_laws r session token fresh
+take_laws r session token fresh None p at = none_laws r session token fresh
+
+retake_laws : (r : RoomValue) (session token fresh : List ℕ) (o : Option Seat) → Placed r → seat_of r.seats session ≡ o → StepLaws r (event.Enter session (Some token) fresh) (opened_by r session fresh (out.Back session) (retake_of r.seats session token fresh o))
+retake_laws r session token fresh (Some (seat.Reserved lapse)) p at = none_laws r session (Some token) fresh
+retake_laws r session token fresh (Some (seat.Taken t)) p at = none_laws r session (Some token) fresh
+retake_laws r session token fresh (Some (seat.Kept t lapse)) p at =
+    let found = there_at is_kept r.sessions session (sym (has_kept r session p) ∙ ap is_kept_seat at) in
+    let go : (b : Bool) → StepLaws r (event.Enter session (Some token) fresh) (opened_by r session fresh (out.Back session) (cond b (seated_with r.seats session fresh) (Err fault.WrongToken))) = elim [
+      | true ↦ opened_laws r session (Some token) fresh (out.Back session) found.0 found.1 (kept_alone found.0.stage found.2).0 refl (λ id. refl) (λ id. refl) (λ id. refl)
+      | false ↦ none_laws r session (Some token) fresh
+    ] in go (bytes_eq t token)
+retake_laws r session token fresh None p at = none_laws r session (Some token) fresh
 
 return_laws : (r : RoomValue) (session : List ℕ) (token : Option (List ℕ)) (fresh : List ℕ) → Placed r → StepLaws r (event.Enter session token fresh) (after_return r session token fresh)
-return_laws r session None fresh p = refused_laws r session None fresh (out.NoSeat session) refl (λ id. refl) (λ id. refl) (λ id. refl)
-return_laws r session (Some token) fresh p = retake_laws r session token fresh (kept_of r.seats session) p refl
+return_laws r session None fresh p = none_laws r session None fresh
+return_laws r session (Some token) fresh p = retake_laws r session token fresh (seat_of r.seats session) p refl
 
 pub enter_laws : (r : RoomValue) (session : List ℕ) (token : Option (List ℕ)) (fresh : List ℕ) → Placed r → StepLaws r (event.Enter session token fresh) (after_enter r session token fresh)
 enter_laws r session token fresh p =
-    let go : (b : Bool) → has_reservation r.seats session ≡ b
-    → StepLaws r (event.Enter session token fresh) (let x : RoomValue × List RoomOut = cond b (opened_by r session fresh (out.Entered session) (take_seat r.seats session fresh)) (after_return r session token fresh) in x) = elim [
-      | true ↦ λ has. take_laws r session token fresh p has
-      | false ↦ λ e. return_laws r session token fresh p
-    ] in go (has_reservation r.seats session) refl
+    let go : (b : Bool) → StepLaws r (event.Enter session token fresh) (let x : RoomValue × List RoomOut = cond b (opened_by r session fresh (out.Entered session) (take_seat r.seats session fresh)) (after_return r session token fresh) in x) = elim [
+      | true ↦ take_laws r session token fresh (seat_of r.seats session) p refl
+      | false ↦ return_laws r session token fresh p
+    ] in go (has_reservation r.seats session)
 
 -- ---- a reservation
 
-pub reserved_laws : (r : RoomValue) (session : List ℕ) (lapse : ℕ) → Placed r → may_happen r (event.Reserve session lapse) ≡ true → StepLaws r (event.Reserve session lapse) (room_step r (event.Reserve session lapse))
-reserved_laws r session lapse p h =
-    let q = reserve_placed r session lapse p h in
+-- a session more that isn't connected
+more_connected : (ss : List Session) (x : Session) (id : List ℕ) → is_connected x.stage ≡ false → stands is_connected (ss ++ x ∷ []) id ≡ stands is_connected ss id
+more_connected ss x id apart =
+    let stand : Option Session → Bool = λ o. option_map_or is_connected (option_map (λ (s : Session). s.stage) o) false in
+    let go : (o : Option Session) (b : Bool) → stand (option_or o (cond b (Some x) None)) ≡ stand o = elim [
+      | Some s ↦ λ b. refl
+      | None ↦ elim [ true ↦ apart | false ↦ refl ]
+    ] in
+    ap stand (named_more (λ (s : Session). s.id) id ss x) ∙ go (session_of ss id) (bytes_eq x.id id)
+
+pub reserved_laws : (r : RoomValue) (session : List ℕ) (lapse : ℕ) → StepLaws r (event.Reserve session lapse) (room_step r (event.Reserve session lapse))
+reserved_laws r session lapse =
+    let mine : Session = record { id = session; stage = Reserved; members = no_members; permitted = root_alone r.schema; queue = []; keep = r.def.keep } in
     quiet_laws r (event.Reserve session lapse) (room_step r (event.Reserve session lapse)) refl refl (λ id. refl) (λ id. refl) refl
-    (λ id. same_connected r (room_step r (event.Reserve session lapse)).0 id p q refl) (λ id h. absurd (cc))
+    (λ id. more_connected r.sessions mine id refl) (λ id h. absurd (cc))
 
 -- ---- a frame
 
@@ -380,55 +402,89 @@ tick_laws r p q =
 
 -- ---- a moment
 
--- an entry that is due has a lapse
-abbrev lapses : Seats → Lapse → Bool
-lapses s a = is_some (lapse_of s a.session)
+-- a session is there, and has no connection
+abbrev is_apart : Stage → Bool
+is_apart st = not (is_connected st)
 
-due_lapse : (s : Seats) (now : ℕ) (session : List ℕ) (o : Option ℕ) → lapse_of s session ≡ o → list_all (lapses s) (due_at now session o) ≡ true
-due_lapse s now session None found = refl
-due_lapse s now session (Some at) found =
-    let go : (b : Bool) → list_all (lapses s) (cond b (record { session = session; at = at } ∷ []) []) ≡ true = elim [ true ↦ ap (λ o. is_some o && true) found | false ↦ refl ] in
-    go (nat_le at now)
+abbrev waits : List Session → Lapse → Bool
+waits ss a = stands is_apart ss a.session
 
 all_both : {X : Type 0} (p : X → Bool) (xs ys : List X) → list_all p xs ≡ true → list_all p ys ≡ true → list_all p (xs ++ ys) ≡ true
 all_both p [] ys a b = b
 all_both p (x ∷ xs) ys a b = let parts = and_parts (p x) (list_all p xs) a in and_from (p x) (list_all p (xs ++ ys)) parts.0 (all_both p xs ys parts.1 b)
 
-all_due : (s : Seats) (now : ℕ) (order : List (List ℕ)) → list_all (lapses s) (flat_map (λ session. due_at now session (lapse_of s session)) order) ≡ true
-all_due s now [] = refl
-all_due s now (session ∷ order) =
-    all_both (lapses s) (due_at now session (lapse_of s session)) (flat_map (λ session. due_at now session (lapse_of s session)) order) (due_lapse s now session (lapse_of s session) refl) (all_due s now order)
+-- so it is behind a session of another name
+waits_behind : (s : Session) (ss : List Session) (ls : List Lapse) → session_of ss s.id ≡ None → list_all (waits ss) ls ≡ true → list_all (waits (s ∷ ss)) ls ≡ true
+waits_behind s ss [] none h = refl
+waits_behind s ss (a ∷ ls) none h =
+    let parts = and_parts (waits ss a) (list_all (waits ss) ls) h in
+    let stand : Option Session → Bool = λ o. option_map_or is_apart (option_map (λ (s : Session). s.stage) o) false in
+    let go : (b : Bool) → bytes_eq s.id a.session ≡ b → stand (cond b (Some s) (session_of ss a.session)) ≡ true = elim [
+      | true ↦ λ e. (let gone : session_of ss a.session ≡ None = subst (λ n. session_of ss n ≡ None) (same_bytes s.id a.session e) none in let no = sym (ap stand gone) ∙ parts.0 in cc)
+      | false ↦ λ e. parts.0
+    ] in and_from (waits (s ∷ ss) a) (list_all (waits (s ∷ ss)) ls) (go (bytes_eq s.id a.session) refl) (waits_behind s ss ls none parts.1)
 
-first_lapses : (s : Seats) (ls : List Lapse) → list_all (lapses s) ls ≡ true → IfSome (first_due ls) (λ a. lapses s a ≡ true)
-first_lapses s [] h = tt
-first_lapses s (a ∷ others) h =
-    let parts = and_parts (lapses s a) (list_all (lapses s) others) h in
-    by_rest (first_due others) (first_lapses s others parts.1) parts.0
+-- a seat that lapses is of a session that has no connection
+lapse_apart : (x : Seat) (st : Stage) → standing_of x ≡ standing st → is_some (lapse_of x) ≡ true → is_apart st ≡ true
+lapse_apart (seat.Taken token) st same h = cc
+lapse_apart x Reserved same h = refl
+lapse_apart x Kept same h = refl
+lapse_apart (seat.Reserved lapse) Joining same h = cc
+lapse_apart (seat.Reserved lapse) Due same h = cc
+lapse_apart (seat.Reserved lapse) Live same h = cc
+lapse_apart (seat.Kept token lapse) Joining same h = cc
+lapse_apart (seat.Kept token lapse) Due same h = cc
+lapse_apart (seat.Kept token lapse) Live same h = cc
+
+-- all that is due waits
+all_wait : (now : ℕ) (es : List SeatEntry) (ss : List Session) → Alike es ss → AreDistinct ss → list_all (waits ss) (flat_map (λ (e : SeatEntry). due_at now e.session (lapse_of e.seat)) es) ≡ true
+all_wait now [] ss h d = refl
+all_wait now (e ∷ es) [] h d = cc
+all_wait now (e ∷ es) (s ∷ ss) h d =
+    let both = first_alike e s es ss h in
+    let name : e.session ≡ s.id = ap (λ x. x.0) both in
+    let at : standing_of e.seat ≡ standing s.stage = ap (λ x. x.1) both in
+    let rest = rest_alike e s es ss h in
+    all_both (waits (s ∷ ss)) (due_at now e.session (lapse_of e.seat)) (flat_map (λ (e : SeatEntry). due_at now e.session (lapse_of e.seat)) es)
+    (first name at (lapse_of e.seat) refl) (waits_behind s ss (flat_map (λ (e : SeatEntry). due_at now e.session (lapse_of e.seat)) es) d.0 (all_wait now es ss rest d.1))
   where
-    by_rest : (o : Option Lapse) → IfSome o (λ a. lapses s a ≡ true) → lapses s a ≡ true → lapses s (earlier a o) ≡ true
+    first : e.session ≡ s.id → standing_of e.seat ≡ standing s.stage → (o : Option ℕ) → lapse_of e.seat ≡ o → list_all (waits (s ∷ ss)) (due_at now e.session o) ≡ true
+    first name at None is = refl
+    first name at (Some moment) is =
+        let own : bytes_eq s.id e.session ≡ true = ap (bytes_eq s.id) name ∙ bytes_eq_self s.id in
+        let stand : Option Session → Bool = λ o. option_map_or is_apart (option_map (λ (s : Session). s.stage) o) false in
+        let here : waits (s ∷ ss) (record { session = e.session; at = moment }) ≡ true =
+        ap (λ b. stand (cond b (Some s) (session_of ss e.session))) own ∙ lapse_apart e.seat s.stage at (ap is_some is) in
+        let go : (b : Bool) → list_all (waits (s ∷ ss)) (cond b (record { session = e.session; at = moment } ∷ []) []) ≡ true = elim [ true ↦ ap (λ b. b && true) here | false ↦ refl ] in
+        go (nat_le moment now)
+
+first_waits : (ss : List Session) (ls : List Lapse) → list_all (waits ss) ls ≡ true → IfSome (first_due ls) (λ a. waits ss a ≡ true)
+first_waits ss [] h = tt
+first_waits ss (a ∷ others) h =
+    let parts = and_parts (waits ss a) (list_all (waits ss) others) h in
+    by_rest (first_due others) (first_waits ss others parts.1) parts.0
+  where
+    by_rest : (o : Option Lapse) → IfSome o (λ a. waits ss a ≡ true) → waits ss a ≡ true → waits ss (earlier a o) ≡ true
     by_rest None rest own = own
     by_rest (Some b) rest own =
-        let go : (c : Bool) → lapses s (cond c b a) ≡ true = elim [ true ↦ rest | false ↦ own ] in go (nat_lt b.at a.at)
+        let go : (c : Bool) → waits ss (cond c b a) ≡ true = elim [ true ↦ rest | false ↦ own ] in go (nat_lt b.at a.at)
 
 -- the session of such an entry isn't connected
-lapse_apart : (r : RoomValue) (session : List ℕ) → Placed r → is_some (lapse_of r.seats session) ≡ true → connected r session ≡ false
-lapse_apart r session p h = by_entry (find (λ (x : Reservation). bytes_eq x.session session) r.seats.reserved) (kept_of r.seats session) refl refl h
+waits_apart : (r : RoomValue) (session : List ℕ) → stands is_apart r.sessions session ≡ true → connected r session ≡ false
+waits_apart r session h =
+    let found = there_at is_apart r.sessions session h in
+    stands_by is_connected r.sessions session found.0.stage (stage_is r.sessions session found.0 found.1) ∙ turned (is_connected found.0.stage) found.2
   where
-    not_here : (test : Stage → Bool) → ((st : Stage) → test st ≡ true → is_connected st ≡ false) → stands test r.sessions session ≡ true → connected r session ≡ false
-    not_here test apart h = let found = there_at test r.sessions session h in stands_by is_connected r.sessions session found.0.stage (stage_is r.sessions session found.0 found.1) ∙ apart found.0.stage found.2
-
-    by_entry : (a : Option Reservation) (b : Option KeptSeat) → find (λ (x : Reservation). bytes_eq x.session session) r.seats.reserved ≡ a → kept_of r.seats session ≡ b →
-        is_some (option_or (option_map (λ (x : Reservation). x.lapse) a) (option_map (λ (x : KeptSeat). x.lapse) b)) ≡ true → connected r session ≡ false
-    by_entry (Some x) b at kept h = not_here is_reserved (λ st h. (reserved_alone st h).0) (sym (p.reserved session) ∙ (any_named (λ (x : Reservation). x.session) session r.seats.reserved ∙ ap is_some at))
-    by_entry None (Some x) at kept h = not_here is_kept (λ st h. (kept_alone st h).0) (sym (p.kept session) ∙ ap is_some kept)
-    by_entry None None at kept h = cc
+    turned : (b : Bool) → not b ≡ true → b ≡ false
+    turned true h = cc
+    turned false h = refl
 
 expired_apart : (r : RoomValue) (now : ℕ) → Placed r → IfSome (expire r.seats now) (λ e. connected r e.0 ≡ false)
-expired_apart r now p = by_first (first_due (due_entries r.seats now)) (first_lapses r.seats (due_entries r.seats now) (all_due r.seats now r.seats.order))
+expired_apart r now p = by_first (first_due (due_entries r.seats now)) (first_waits r.sessions (due_entries r.seats now) (all_wait now r.seats.entries r.sessions p.alike p.distinct))
   where
-    by_first : (o : Option Lapse) → IfSome o (λ a. lapses r.seats a ≡ true) → IfSome (expired r.seats o) (λ e. connected r e.0 ≡ false)
+    by_first : (o : Option Lapse) → IfSome o (λ a. waits r.sessions a ≡ true) → IfSome (expired r.seats o) (λ e. connected r e.0 ≡ false)
     by_first None h = tt
-    by_first (Some a) h = lapse_apart r a.session p h
+    by_first (Some a) h = waits_apart r a.session h
 
 -- what lapsed so far: no connection changed, and only sessions without one left
 record Lapsed (r : RoomValue) (x : RoomValue × List RoomOut) : Type 0 where
@@ -447,12 +503,12 @@ none_of p xs ys a b = any_both p xs ys ∙ (ap (λ c. c || list_any p ys) a ∙ 
 lapse_tells : (p : RoomOut → Bool) (seats : Seats) (session : List ℕ) → p (out.Left session) ≡ false → list_any p (lapse_outs seats session) ≡ false
 lapse_tells p seats session h =
     let go : (b : Bool) → list_any p (cond b (out.Left session ∷ []) []) ≡ false = elim [ true ↦ ap (λ b. b || false) h | false ↦ refl ] in
-    go (is_some (kept_of seats session))
+    go (is_kept_seat (seat_of seats session))
 
 lapse_ends : (seats : Seats) (session id : List ℕ) → list_any (is_end id) (lapse_outs seats session) ≡ true → bytes_eq session id ≡ true
 lapse_ends seats session id h =
     let go : (b : Bool) → list_any (is_end id) (cond b (out.Left session ∷ []) []) ≡ true → bytes_eq session id ≡ true = elim [ true ↦ λ e. sym (or_false (bytes_eq session id)) ∙ e | false ↦ λ e. absurd (cc) ] in
-    go (is_some (kept_of seats session)) h
+    go (is_kept_seat (seat_of seats session)) h
 
 -- what isn't there can be told to end
 still : (c b : Bool) → (b ≡ true → c ≡ false) → c ≡ (c && not b)
@@ -481,7 +537,7 @@ lapsed_often r (suc n) now x l = lapsed_often r n now (after_lapse x (expire x.0
 
 moment_laws : (r : RoomValue) (now : ℕ) → Placed r → StepLaws r (event.Moment now) (after_moment r now)
 moment_laws r now p =
-    let l = lapsed_often r (length r.seats.order) now (r, [])
+    let l = lapsed_often r (length r.seats.entries) now (r, [])
     (record { placed = p; same = λ id. refl; entries = λ id. refl; answers = refl; goes = λ id. refl; ends = λ id h. absurd (cc) }) in
     let x : RoomValue × List RoomOut = after_moment r now in
     laws r (event.Moment now) x refl l.entries (none_counted is_answer x.1 l.answers)
@@ -493,7 +549,7 @@ moment_laws r now p =
 -- ---- the step
 
 pub step_obeys : (r : RoomValue) (e : RoomEvent) → Placed r → may_happen r e ≡ true → StepLaws r e (room_step r e)
-step_obeys r (event.Reserve session lapse) p h = reserved_laws r session lapse p h
+step_obeys r (event.Reserve session lapse) p h = reserved_laws r session lapse
 step_obeys r (event.Enter session token fresh) p h = enter_laws r session token fresh p
 step_obeys r (event.Frame session bytes) p h = frame_laws r session bytes p h
 step_obeys r (event.Lost session now) p h = loss_laws r session now h
@@ -503,11 +559,12 @@ step_obeys r event.Tick p h = tick_laws r p (step_placed r event.Tick p h)
 
 -- a connected session has a place
 pub place_taken : (r : RoomValue) (id : List ℕ) → Placed r → connected r id ≡ true → 1 ≤ in_use r.seats
-place_taken r id p h = by_seats r.seats.seats (p.seated id ∙ h)
+place_taken r id p h = by_entries r.seats.entries r.sessions p.alike h
   where
-    by_seats : (xs : List Seat) → is_some (find (λ (x : Seat). bytes_eq x.session id) xs) ≡ true → 1 ≤ length xs + length r.seats.reserved + length r.seats.kept
-    by_seats [] e = cc
-    by_seats (x ∷ xs) e = omega arith
+    by_entries : (es : List SeatEntry) (ss : List Session) → Alike es ss → stands is_connected ss id ≡ true → 1 ≤ length es
+    by_entries [] [] alike e = cc
+    by_entries [] (s ∷ ss) alike e = cc
+    by_entries (x ∷ es) ss alike e = omega arith
 
 pub rooms_obey : RoomsObey
 rooms_obey schema def criteria events h =

@@ -1,5 +1,5 @@
 -- Each event of a room keeps its places and its sessions alike.
-use Rattle.std.proofs.Common.{◌≡◌, ℕ, zero, suc, ◌+◌, Bool, true, false, not, cond, List, [], ◌∷◌, map, length, Option, Some, None, is_some, Result, Ok, Err, refl, sym, ap, ◌∙◌}
+use Rattle.std.proofs.Common.{◌≡◌, ℕ, zero, suc, ◌+◌, Bool, true, false, cond, List, [], ◌∷◌, map, length, Option, Some, None, Result, Ok, Err, refl, sym, ap, ◌∙◌}
 use Rattle.std.specs.Prelude.{nat_lt}
 use Rattle.std.specs.Option.{option_map, option_map_or}
 use Rattle.std.specs.Str.{bytes_eq}
@@ -28,45 +28,52 @@ use Rattle.room_model.specs.declared.event.Stage.{Stage}
 use Rattle.room_model.specs.declared.event.Stage.TheVariants.{Reserved, Joining, Due, Live, Kept}
 use Rattle.room_model.specs.declared.refusal.Refusal.{Refusal}
 use Rattle.room_model.specs.declared.seat.SeatFault.TheVariants as fault
-use Rattle.room_model.specs.Seats.{Seats, Seat, KeptSeat, has_reservation, taken_seat}
-use Rattle.room_model.specs.Ledger.{seat_of, kept_of, has_token, take_seat, retake_kept, retaken_seat, keep, keep_seat, expire}
-use Rattle.room_model.specs.Sessions.{Session, Acted, session_of, change_session, is_connected, told_to, view_added_to, view_removed_from, keep_set}
+use Rattle.room_model.specs.declared.seat.Seat.{Seat}
+use Rattle.room_model.specs.declared.seat.Seat.TheVariants as seat
+use Rattle.room_model.specs.Seats.{Seats, seat_of, seated, is_taken_seat, has_reservation}
+use Rattle.room_model.specs.Ledger.{has_token, seated_with, take_of, take_seat, retake_of, keep, keep_of, expire}
+use Rattle.room_model.specs.Sessions.{Session, Acted, session_of, change_session, is_connected, at_stage, told_to, view_added_to, view_removed_from, keep_set}
 use Rattle.room_model.specs.Room.{RoomValue, new_room, room_step, opened_by, after_enter, after_return, where_connected, after_read, acknowledged, acknowledged_at, after_drop, accepted, with_sessions, with_seats, dropped, after_lapse, after_answer, session_after, after_kick, after_act, after_tick, session_swept, ticked_at, ended}
-use Rattle.room_laws.specs.Placed.{Placed, RoomsStayPlaced}
+use Rattle.room_laws.specs.Placed.{Placed, standing, RoomsStayPlaced}
 use Rattle.room_laws.specs.Places.{may_happen, may_follow, room_after}
+use Rattle.room_laws.proofs.AlikeLists.{has_seat}
 use Rattle.room_laws.proofs.SessionLists.{named_key}
-use Rattle.room_laws.proofs.PlacedSteps.{StandAlike, stands_same, reserve_placed, taken_placed, retaken_placed, dropped_placed, ended_placed, mapped_placed, Stays, told_stays, added_stays, removed_stays, keep_stays, acted_placed}
+use Rattle.room_laws.proofs.PlacedSteps.{reserve_placed, seated_placed, ended_placed, mapped_placed, Stays, told_stays, added_stays, removed_stays, keep_stays, acted_placed}
 
 -- ---- an opening
 
--- a reservation that may be taken is there
-take_cases : (r : RoomValue) (session fresh : List ℕ) → Placed r → has_reservation r.seats session ≡ true → Placed (opened_by r session fresh (out.Entered session) (take_seat r.seats session fresh)).0
-take_cases r session fresh p has =
-    let go : (b c : Bool) → has_reservation r.seats session ≡ b
-    → Placed (opened_by r session fresh (out.Entered session) (cond (not b) (Err fault.NoSeat) (cond c (Err fault.IdInUse) (Ok (taken_seat r.seats session fresh))))).0 = elim [
-      | true ↦ elim [ true ↦ λ e. p | false ↦ λ e. taken_placed r session fresh p has ]
-      | false ↦ λ c e. p
-    ] in go (has_reservation r.seats session) (has_token r.seats fresh) refl
+-- a session that has a seat from now on
+opened_placed : (r : RoomValue) (session fresh : List ℕ) (told : RoomOut) → Placed r → Placed (opened_by r session fresh told (seated_with r.seats session fresh)).0
+opened_placed r session fresh told p =
+    let go : (c : Bool) → Placed (opened_by r session fresh told (cond c (Err fault.IdInUse) (Ok (seated r.seats session (seat.Taken fresh))))).0 = elim [
+      | true ↦ p
+      | false ↦ seated_placed r session (seat.Taken fresh) (at_stage Joining) (λ s. refl) (λ s. refl) p
+    ] in go (has_token r.seats fresh)
 
-retake_cases : (r : RoomValue) (session token fresh : List ℕ) (o : Option KeptSeat) → Placed r → kept_of r.seats session ≡ o → Placed (opened_by r session fresh (out.Back session) (retake_kept r.seats session token fresh o)).0
-retake_cases r session token fresh None p found = p
-retake_cases r session token fresh (Some x) p found =
-    let go : (b c : Bool) → Placed (opened_by r session fresh (out.Back session) (cond (not b) (Err fault.WrongToken) (cond c (Err fault.IdInUse) (Ok (retaken_seat r.seats session fresh))))).0 = elim [
-      | true ↦ elim [ true ↦ p | false ↦ retaken_placed r session fresh p (ap is_some found) ]
-      | false ↦ λ c. p
-    ] in go (bytes_eq x.token token) (has_token r.seats fresh)
+take_placed : (r : RoomValue) (session fresh : List ℕ) (told : RoomOut) (o : Option Seat) → Placed r → Placed (opened_by r session fresh told (take_of r.seats session fresh o)).0
+take_placed r session fresh told (Some (seat.Reserved lapse)) p = opened_placed r session fresh told p
+take_placed r session fresh told (Some (seat.Taken token)) p = p
+take_placed r session fresh told (Some (seat.Kept token lapse)) p = p
+take_placed r session fresh told None p = p
+
+retake_placed : (r : RoomValue) (session token fresh : List ℕ) (told : RoomOut) (o : Option Seat) → Placed r → Placed (opened_by r session fresh told (retake_of r.seats session token fresh o)).0
+retake_placed r session token fresh told (Some (seat.Reserved lapse)) p = p
+retake_placed r session token fresh told (Some (seat.Taken t)) p = p
+retake_placed r session token fresh told (Some (seat.Kept t lapse)) p =
+    let go : (b : Bool) → Placed (opened_by r session fresh told (cond b (seated_with r.seats session fresh) (Err fault.WrongToken))).0 = elim [ true ↦ opened_placed r session fresh told p | false ↦ p ] in
+    go (bytes_eq t token)
+retake_placed r session token fresh told None p = p
 
 return_placed : (r : RoomValue) (session : List ℕ) (token : Option (List ℕ)) (fresh : List ℕ) → Placed r → Placed (after_return r session token fresh).0
 return_placed r session None fresh p = p
-return_placed r session (Some token) fresh p = retake_cases r session token fresh (kept_of r.seats session) p refl
+return_placed r session (Some token) fresh p = retake_placed r session token fresh (out.Back session) (seat_of r.seats session) p
 
 enter_placed : (r : RoomValue) (session : List ℕ) (token : Option (List ℕ)) (fresh : List ℕ) → Placed r → Placed (after_enter r session token fresh).0
 enter_placed r session token fresh p =
-    let go : (b : Bool) → has_reservation r.seats session ≡ b
-    → Placed (cond b (opened_by r session fresh (out.Entered session) (take_seat r.seats session fresh)) (after_return r session token fresh)).0 = elim [
-      | true ↦ λ has. take_cases r session fresh p has
-      | false ↦ λ e. return_placed r session token fresh p
-    ] in go (has_reservation r.seats session) refl
+    let go : (b : Bool) → Placed (cond b (opened_by r session fresh (out.Entered session) (take_seat r.seats session fresh)) (after_return r session token fresh)).0 = elim [
+      | true ↦ take_placed r session fresh (out.Entered session) (seat_of r.seats session) p
+      | false ↦ return_placed r session token fresh p
+    ] in go (has_reservation r.seats session)
 
 -- ---- a frame, and a loss
 
@@ -75,22 +82,22 @@ connected_placed r None happens p h = p
 connected_placed r (Some s) happens p h =
     let go : (b : Bool) → is_connected s.stage ≡ b → Placed (cond b (happens s) (r, [])).0 = elim [ true ↦ λ e. h s refl e | false ↦ λ e. p ] in go (is_connected s.stage) refl
 
-acknowledged_alike : (stage : Stage) (s : Session) → s.stage ≡ stage → (acknowledged_at stage s).id ≡ s.id × StandAlike (acknowledged_at stage s).stage s.stage
-acknowledged_alike Joining s e = (refl, rw e (record { connected = refl; reserved = refl; kept = refl }))
-acknowledged_alike Due s e = (refl, stands_same s.stage)
-acknowledged_alike Live s e = (refl, stands_same s.stage)
-acknowledged_alike Reserved s e = (refl, stands_same s.stage)
-acknowledged_alike Kept s e = (refl, stands_same s.stage)
+acknowledged_alike : (stage : Stage) (s : Session) → s.stage ≡ stage → (acknowledged_at stage s).id ≡ s.id × standing (acknowledged_at stage s).stage ≡ standing s.stage
+acknowledged_alike Joining s e = (refl, sym (ap standing e))
+acknowledged_alike Due s e = (refl, refl)
+acknowledged_alike Live s e = (refl, refl)
+acknowledged_alike Reserved s e = (refl, refl)
+acknowledged_alike Kept s e = (refl, refl)
 
 -- a session where one name's is acknowledged
 abbrev acknowledged_in : List ℕ → Session → Session
 acknowledged_in session s = cond (bytes_eq s.id session) (acknowledged s) s
 
-acknowledged_in_alike : (session : List ℕ) (s : Session) → (acknowledged_in session s).id ≡ s.id × StandAlike (acknowledged_in session s).stage s.stage
+acknowledged_in_alike : (session : List ℕ) (s : Session) → (acknowledged_in session s).id ≡ s.id × standing (acknowledged_in session s).stage ≡ standing s.stage
 acknowledged_in_alike session s =
-    let go : (b : Bool) → (let t : Session = cond b (acknowledged s) s in t.id ≡ s.id × StandAlike t.stage s.stage) = elim [
+    let go : (b : Bool) → (let t : Session = cond b (acknowledged s) s in t.id ≡ s.id × standing t.stage ≡ standing s.stage) = elim [
       | true ↦ acknowledged_alike s.stage s refl
-      | false ↦ (refl, stands_same s.stage)
+      | false ↦ (refl, refl)
     ] in go (bytes_eq s.id session)
 
 pub read_placed : (r : RoomValue) (session : List ℕ) (x : Result ClientFrame FrameFault) → Placed r → Placed (after_read r session x).0
@@ -101,17 +108,20 @@ read_placed r session (Ok (client.Msg kind payload)) p = p
 read_placed r session (Ok (client.Raw kind payload)) p = p
 read_placed r session (Err f) p = p
 
-kept_cases : (r : RoomValue) (s : Session) (lapse : ℕ) (o : Option Seat) → Placed r → session_of r.sessions s.id ≡ Some s → is_connected s.stage ≡ true → is_some o ≡ true →
-    Placed (with_seats (with_sessions r (change_session s.id dropped r.sessions)) (accepted r.seats (keep_seat r.seats s.id lapse o)))
-kept_cases r s lapse None p found connected there = cc
-kept_cases r s lapse (Some x) p found connected there = dropped_placed r s x.token lapse p found connected
+-- a session that is connected has a seat to keep
+kept_cases : (r : RoomValue) (s : Session) (lapse : ℕ) (o : Option Seat) → Placed r → is_taken_seat o ≡ true
+    → Placed (with_seats (with_sessions r (change_session s.id dropped r.sessions)) (accepted r.seats (keep_of r.seats s.id lapse o)))
+kept_cases r s lapse None p there = cc
+kept_cases r s lapse (Some (seat.Reserved l)) p there = cc
+kept_cases r s lapse (Some (seat.Taken token)) p there = seated_placed r s.id (seat.Kept token lapse) dropped (λ s. refl) (λ s. refl) p
+kept_cases r s lapse (Some (seat.Kept token l)) p there = cc
 
 drop_placed : (r : RoomValue) (now : ℕ) (s : Session) → Placed r → session_of r.sessions s.id ≡ Some s → is_connected s.stage ≡ true → Placed (after_drop r now s).0
 drop_placed r now s p found connected =
     let kept : RoomValue = with_seats (with_sessions r (change_session s.id dropped r.sessions)) (accepted r.seats (keep r.seats s.id (now + s.keep))) in
-    let seated : is_some (seat_of r.seats s.id) ≡ true = p.seated s.id ∙ (ap (λ o. stand o) found ∙ connected) in
+    let seated : is_taken_seat (seat_of r.seats s.id) ≡ true = has_seat r s.id p ∙ (ap (λ o. stand o) found ∙ connected) in
     let go : (b : Bool) → Placed (let x : RoomValue × List RoomOut = cond b (kept, out.Dropped s.id ∷ []) (ended r s.id, out.Left s.id ∷ []) in x).0 = elim [
-      | true ↦ kept_cases r s (now + s.keep) (seat_of r.seats s.id) p found connected seated
+      | true ↦ kept_cases r s (now + s.keep) (seat_of r.seats s.id) p seated
       | false ↦ ended_placed r s.id p
     ] in go (nat_lt 0 s.keep)
   where
@@ -131,7 +141,7 @@ moments_placed (suc n) now so_far p = moments_placed n now (after_lapse so_far (
 -- ---- an act
 
 alike_placed : (r t : RoomValue) → t.seats ≡ r.seats → t.sessions ≡ r.sessions → Placed r → Placed t
-alike_placed r t seats sessions p = mapped_placed r t (λ s. s) seats (sessions ∙ sym (map_same r.sessions)) (λ s. refl) (λ s. stands_same s.stage) p
+alike_placed r t seats sessions p = mapped_placed r t (λ s. s) seats (sessions ∙ sym (map_same r.sessions)) (λ s. refl) (λ s. refl) p
   where
     map_same : (ss : List Session) → map (λ s. s) ss ≡ ss
     map_same [] = refl
@@ -141,9 +151,9 @@ answer_placed : (r : RoomValue) (x : Result (State × Option ℕ) TableFault) �
 answer_placed r (Ok x) p = alike_placed r (after_answer r (Ok x)).0 refl refl p
 answer_placed r (Err f) p = p
 
-told_alike : (s : Session) (x : Result Acted Refusal) → Stays s x → (session_after s x).id ≡ s.id × StandAlike (session_after s x).stage s.stage
-told_alike s (Err f) h = (refl, stands_same s.stage)
-told_alike s (Ok a) h = (h.0, rw h.1 (stands_same s.stage))
+told_alike : (s : Session) (x : Result Acted Refusal) → Stays s x → (session_after s x).id ≡ s.id × standing (session_after s x).stage ≡ standing s.stage
+told_alike s (Err f) h = (refl, refl)
+told_alike s (Ok a) h = (h.0, ap standing h.1)
 
 kick_placed : (r : RoomValue) (code : ℕ) (s : Option Session) → Placed r → Placed (after_kick r code s).0
 kick_placed r code None p = p
@@ -160,18 +170,18 @@ act_placed r (act.ToAll kind bytes) p =
     mapped_placed r (after_act r (act.ToAll kind bytes)).0 (λ (s : Session). session_after s (told_to frame s)) refl refl
     (λ s. (told_alike s (told_to frame s) (told_stays s.stage frame s)).0) (λ s. (told_alike s (told_to frame s) (told_stays s.stage frame s)).1) p
 act_placed r (act.Kick id code) p = kick_placed r code (session_of r.sessions id) p
-act_placed r act.Lock p = record { distinct = p.distinct; seated = p.seated; reserved = p.reserved; kept = p.kept }
-act_placed r act.Unlock p = record { distinct = p.distinct; seated = p.seated; reserved = p.reserved; kept = p.kept }
+act_placed r act.Lock p = record { distinct = p.distinct; alike = p.alike }
+act_placed r act.Unlock p = record { distinct = p.distinct; alike = p.alike }
 act_placed r (act.Keep id ms) p = acted_placed r id (keep_set ms) (keep_stays ms) p
 
 -- ---- a tick
 
-ticked_alike : (stage : Stage) (rows : List RowEntry) (s : Session) → s.stage ≡ stage → (ticked_at stage rows s).id ≡ s.id × StandAlike (ticked_at stage rows s).stage s.stage
-ticked_alike Due rows s e = (refl, rw e (record { connected = refl; reserved = refl; kept = refl }))
-ticked_alike Live rows s e = (refl, rw e (stands_same Live))
-ticked_alike Reserved rows s e = (refl, stands_same s.stage)
-ticked_alike Joining rows s e = (refl, stands_same s.stage)
-ticked_alike Kept rows s e = (refl, stands_same s.stage)
+ticked_alike : (stage : Stage) (rows : List RowEntry) (s : Session) → s.stage ≡ stage → (ticked_at stage rows s).id ≡ s.id × standing (ticked_at stage rows s).stage ≡ standing s.stage
+ticked_alike Due rows s e = (refl, sym (ap standing e))
+ticked_alike Live rows s e = (refl, sym (ap standing e))
+ticked_alike Reserved rows s e = (refl, refl)
+ticked_alike Joining rows s e = (refl, refl)
+ticked_alike Kept rows s e = (refl, refl)
 
 tick_placed : (r : RoomValue) → Placed r → Placed (after_tick r).0
 tick_placed r p =
@@ -180,7 +190,7 @@ tick_placed r p =
     let swept_room : RoomValue = with_sessions r (map (session_swept rows) r.sessions) in
     mapped_placed swept_room (after_tick r).0 seen refl refl
     (λ s. (ticked_alike s.stage (permitted r.schema rows s.members.now) s refl).0) (λ s. (ticked_alike s.stage (permitted r.schema rows s.members.now) s refl).1)
-    (mapped_placed r swept_room (session_swept rows) refl refl (λ s. refl) (λ s. stands_same s.stage) p)
+    (mapped_placed r swept_room (session_swept rows) refl refl (λ s. refl) (λ s. refl) p)
 
 -- ---- the step
 
@@ -191,7 +201,7 @@ step_placed r (event.Frame session bytes) p h = connected_placed r (session_of r
 step_placed r (event.Lost session now) p h =
     connected_placed r (session_of r.sessions session) _ p
     (λ s found connected. drop_placed r now s p (ap (session_of r.sessions) (named_key (λ (s : Session). s.id) session r.sessions s found) ∙ found) connected)
-step_placed r (event.Moment now) p h = moments_placed (length r.seats.order) now (r, []) p
+step_placed r (event.Moment now) p h = moments_placed (length r.seats.entries) now (r, []) p
 step_placed r (event.Act a) p h = act_placed r a p
 step_placed r event.Tick p h = tick_placed r p
 
@@ -204,7 +214,7 @@ events_placed r (e ∷ es) p h =
 
 -- a new room
 pub new_placed : (schema : Schema) (def : RoomDef) (criteria : List (List ℕ)) → Placed (new_room schema def criteria)
-new_placed schema def criteria = record { distinct = tt; seated = λ id. refl; reserved = λ id. refl; kept = λ id. refl }
+new_placed schema def criteria = record { distinct = tt; alike = refl }
 
 pub rooms_stay_placed : RoomsStayPlaced
 rooms_stay_placed schema def criteria events h =

@@ -19,6 +19,7 @@ use Rattle.room_model.specs.declared.event.RoomOut.{RoomOut}
 use Rattle.room_model.specs.declared.event.RoomOut.TheVariants as out
 use Rattle.room_model.specs.declared.refusal.Refusal.{Refusal}
 use Rattle.room_model.specs.declared.seat.SeatFault.{SeatFault}
+use Rattle.room_model.specs.declared.seat.Seat.TheVariants as seat
 use Rattle.room_model.specs.declared.seat.SeatFault.TheVariants as fault
 use Rattle.room_model.specs.Seats.{Seats, in_use, has_reservation}
 use Rattle.room_model.specs.Ledger.{is_full, take_seat, retake, keep, expire}
@@ -46,7 +47,7 @@ reserve_keeps r session lapse within h =
     let untaken : (not r.seats.locked && not (is_full r.seats)) ≡ true = (and_parts (not r.seats.locked && not (is_full r.seats)) (not (is_some (session_of r.sessions session))) h).0 in
     let parts : (not r.seats.locked ≡ true) × (not (is_full r.seats) ≡ true) = and_parts (not r.seats.locked) (not (is_full r.seats)) untaken in
     let free : is_full r.seats ≡ false = turned (is_full r.seats) parts.1 in
-    let more = length-append r.seats.reserved (record { session = session; lapse = lapse } ∷ []) in
+    let more = length-append r.seats.entries (record { session = session; seat = seat.Reserved lapse } ∷ []) in
     (omega (arith, leb-false r.seats.max (in_use r.seats) free), refl)
   where
     turned : (b : Bool) → not b ≡ true → b ≡ false
@@ -151,7 +152,7 @@ step_keeps r (event.Reserve session lapse) within h = reserve_keeps r session la
 step_keeps r (event.Enter session token fresh) within h = enter_keeps r session token fresh within
 step_keeps r (event.Frame session bytes) within h = connected_keeps r (session_of r.sessions session) _ within (λ s. read_keeps r session (read_client bytes) within)
 step_keeps r (event.Lost session now) within h = connected_keeps r (session_of r.sessions session) _ within (λ s. drop_keeps r now s within)
-step_keeps r (event.Moment now) within h = moments_keep (length r.seats.order) now (r, []) within
+step_keeps r (event.Moment now) within h = moments_keep (length r.seats.entries) now (r, []) within
 step_keeps r (event.Act a) within h = act_keeps r a within
 step_keeps r event.Tick within h = same r within
 
@@ -166,5 +167,4 @@ events_keep r (e ∷ es) within h =
 
 pub rooms_keep_places : RoomsKeepPlaces
 rooms_keep_places schema def criteria events h =
-    let kept = events_keep (new_room schema def criteria) events zero-le h in
-    rw kept.1 at kept.0
+    (events_keep (new_room schema def criteria) events zero-le h).0

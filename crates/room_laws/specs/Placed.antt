@@ -1,15 +1,16 @@
--- Rooms whose places and sessions tell the same: a session has a seat where it is connected, a reservation where it is
--- reserved, and a kept seat where it is kept. Ours.
-use Rattle.std.specs.Prelude.{◌≡◌, ℕ, Bool, true, false, List, [], ◌∷◌, Option, None, is_some}
+-- Rooms whose places and sessions tell the same: the same sessions, in one order, each with a seat where it is connected,
+-- a reservation where it is reserved, and a kept seat where it is kept. Ours.
+use Rattle.std.specs.Prelude.{◌≡◌, ℕ, Bool, true, false, List, [], ◌∷◌, map, Option, None}
 use Rattle.std.specs.Option.{option_map, option_map_or}
 use Rattle.schema_model.specs.Classes.{Schema}
 use Rattle.room_model.specs.declared.definition.RoomDef.{RoomDef}
 use Rattle.room_model.specs.declared.event.RoomEvent.{RoomEvent}
 use Rattle.room_model.specs.declared.event.Stage.{Stage}
 use Rattle.room_model.specs.declared.event.Stage.TheVariants.{Reserved, Joining, Due, Live, Kept}
-use Rattle.room_model.specs.Seats.{has_reservation}
-use Rattle.room_model.specs.Ledger.{seat_of, kept_of}
-use Rattle.room_model.specs.Sessions.{Session, session_of, is_connected}
+use Rattle.room_model.specs.declared.seat.Seat.{Seat}
+use Rattle.room_model.specs.declared.seat.Seat.TheVariants as seat
+use Rattle.room_model.specs.declared.seat.SeatEntry.{SeatEntry}
+use Rattle.room_model.specs.Sessions.{Session, session_of}
 use Rattle.room_model.specs.Room.{RoomValue, new_room}
 use Rattle.room_laws.specs.Places.{may_follow, room_after}
 
@@ -40,12 +41,31 @@ abbrev pub AreDistinct : List Session → Type 0
 AreDistinct [] = Unit {0}
 AreDistinct (s ∷ ss) = (session_of ss s.id ≡ None) × AreDistinct ss
 
--- the places and the sessions of a room tell the same
+-- the stage that stands for all at which a session has a connection
+abbrev pub standing : Stage → Stage
+standing Reserved = Reserved
+standing Joining = Live
+standing Due = Live
+standing Live = Live
+standing Kept = Kept
+
+-- the stage at which a session has such a seat
+abbrev pub standing_of : Seat → Stage
+standing_of (seat.Reserved lapse) = Reserved
+standing_of (seat.Taken token) = Live
+standing_of (seat.Kept token lapse) = Kept
+
+-- what an entry tells, and what a session does: a name, and where it stands
+abbrev pub entry_tells : SeatEntry → List ℕ × Stage
+entry_tells e = (e.session, standing_of e.seat)
+
+abbrev pub session_tells : Session → List ℕ × Stage
+session_tells s = (s.id, standing s.stage)
+
+-- the places and the sessions of a room tell the same, one by one
 pub record Placed (r : RoomValue) : Type 0 where
   pub distinct : AreDistinct r.sessions
-  pub seated : (id : List ℕ) → is_some (seat_of r.seats id) ≡ stands is_connected r.sessions id
-  pub reserved : (id : List ℕ) → has_reservation r.seats id ≡ stands is_reserved r.sessions id
-  pub kept : (id : List ℕ) → is_some (kept_of r.seats id) ≡ stands is_kept r.sessions id
+  pub alike : map entry_tells r.seats.entries ≡ map session_tells r.sessions
 
 -- after every list of events that may happen, from a new room
 abbrev pub RoomsStayPlaced : Type 0

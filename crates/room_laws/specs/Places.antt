@@ -32,7 +32,7 @@ abbrev pub may_follow : RoomValue → List RoomEvent → Bool
 may_follow r [] = true
 may_follow r (e ∷ es) = may_happen r e && may_follow (room_step r e).0 es
 
--- after every such list the seats, reservations and kept seats together are at most the places of the definition
+-- after every such list the seats, reservations and kept seats together are at most the places that the room has then
 abbrev pub RoomsKeepPlaces : Type 0
 RoomsKeepPlaces = (schema : Schema) (def : RoomDef) (criteria : List (List ℕ)) (events : List RoomEvent) → may_follow (new_room schema def criteria) events ≡ true
-    → in_use (room_after (new_room schema def criteria) events).seats ≤ def.max
+    → (let seats = (room_after (new_room schema def criteria) events).seats in in_use seats ≤ seats.max)

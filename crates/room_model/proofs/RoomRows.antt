@@ -1,8 +1,8 @@
 -- Examples: what a room's step makes of each event, and what it gives; worked out by hand.
-use Rattle.std.specs.Prelude.{◌≡◌, ℕ, List, [], ◌∷◌, ◌++◌, length, map, Some, None, Ok, Err, pos, negsuc, codes, refl}
+use Rattle.std.specs.Prelude.{◌≡◌, ℕ, List, [], ◌∷◌, ◌++◌, map, Some, None, Ok, Err, pos, negsuc, codes, refl}
 use Rattle.std.specs.List.{repeat}
 use Rattle.state_model.specs.declared.command.Command.TheVariants as command
-use Rattle.state_model.specs.declared.command.TableFault.TheVariants.{NoRef, NoField}
+use Rattle.state_model.specs.declared.command.TableFault.TheVariants.{NoRef}
 use Rattle.schema_model.specs.declared.value.Value.TheVariants as value
 use Rattle.schema_model.specs.declared.place.Pair.{Pair}
 use Rattle.state_model.specs.Members.{no_members}
@@ -15,7 +15,7 @@ use Rattle.room_model.specs.declared.event.RoomEvent.{RoomEvent}
 use Rattle.room_model.specs.declared.event.RoomEvent.TheVariants as event
 use Rattle.room_model.specs.declared.event.RoomOut.{RoomOut}
 use Rattle.room_model.specs.declared.event.RoomOut.TheVariants as out
-use Rattle.room_model.specs.declared.event.Stage.TheVariants.{Reserved, Joining, Due, Live, Kept}
+use Rattle.room_model.specs.declared.event.Stage.TheVariants.{Due}
 use Rattle.room_model.specs.declared.refusal.Refusal.TheVariants as refusal
 use Rattle.room_model.specs.Sessions.{Session, told_to}
 use Rattle.room_model.specs.Room.{RoomValue, new_room, room_step}

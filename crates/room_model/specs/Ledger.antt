@@ -1,118 +1,87 @@
 -- The calls of a seat ledger: what each makes of a room's places, or why it is refused. After Colyseus 0.16.
-use Rattle.std.specs.Prelude.{ℕ, Bool, not, ◌||◌, List, [], ◌∷◌, ◌++◌, filter, Option, Some, None, is_some, nat_lt, nat_le, if◌then◌else◌, Result, Ok, Err}
+use Rattle.std.specs.Prelude.{ℕ, Bool, false, List, [], ◌∷◌, Option, Some, None, is_some, nat_lt, nat_le, if◌then◌else◌, Result, Ok, Err}
 use Rattle.std.specs.List.{find, flat_map, list_any}
-use Rattle.std.specs.Option.{option_map, option_or}
+use Rattle.std.specs.Option.{option_map}
 use Rattle.std.specs.Str.{bytes_eq}
+use Rattle.room_model.specs.declared.seat.Seat.{Seat}
+use Rattle.room_model.specs.declared.seat.Seat.TheVariants.{Reserved, Taken, Kept}
+use Rattle.room_model.specs.declared.seat.SeatEntry.{SeatEntry}
 use Rattle.room_model.specs.declared.seat.SeatFault.{SeatFault}
 use Rattle.room_model.specs.declared.seat.SeatFault.TheVariants.{Locked, Full, NoSeat, WrongToken, IdInUse}
-use Rattle.room_model.specs.Seats.{Seats, Seat, Reservation, KeptSeat, in_use, has_reservation, reserved_seat, taken_seat}
+use Rattle.room_model.specs.Seats.{Seats, in_use, seat_of, reserved_seat, seated, left_seat}
 
 -- ---- what is looked up
 
--- the seat and the kept seat of a session
-abbrev pub seat_of : Seats → List ℕ → Option Seat
-seat_of s session = find (λ (x : Seat). bytes_eq x.session session) s.seats
+-- the token is that of a seat or a kept seat
+abbrev pub has_as_token : List ℕ → Seat → Bool
+has_as_token token (Reserved lapse) = false
+has_as_token token (Taken t) = bytes_eq t token
+has_as_token token (Kept t lapse) = bytes_eq t token
 
-abbrev pub kept_of : Seats → List ℕ → Option KeptSeat
-kept_of s session = find (λ (x : KeptSeat). bytes_eq x.session session) s.kept
-
--- the session is in a list
-abbrev pub has_entry : Seats → List ℕ → Bool
-has_entry s session = is_some (seat_of s session) || has_reservation s session || is_some (kept_of s session)
-
--- the token is a seat's or a kept seat's
 abbrev pub has_token : Seats → List ℕ → Bool
-has_token s token = list_any (λ (x : Seat). bytes_eq x.token token) s.seats || list_any (λ (x : KeptSeat). bytes_eq x.token token) s.kept
+has_token s token = list_any (λ (e : SeatEntry). has_as_token token e.seat) s.entries
 
 -- no place is left
 abbrev pub is_full : Seats → Bool
 is_full s = nat_le s.max (in_use s)
 
 -- the session of the kept seat with this token
+abbrev pub is_kept_by : List ℕ → Seat → Bool
+is_kept_by token (Reserved lapse) = false
+is_kept_by token (Taken t) = false
+is_kept_by token (Kept t lapse) = bytes_eq t token
+
 abbrev pub kept_by : Seats → List ℕ → Option (List ℕ)
-kept_by s token = option_map (λ (x : KeptSeat). x.session) (find (λ (x : KeptSeat). bytes_eq x.token token) s.kept)
-
--- ---- what an accepted call makes of the places
-
--- the lists without a session
-abbrev pub seats_but : List ℕ → List Seat → List Seat
-seats_but session xs = filter (λ (x : Seat). not (bytes_eq x.session session)) xs
-
-abbrev pub reserved_but : List ℕ → List Reservation → List Reservation
-reserved_but session xs = filter (λ (x : Reservation). not (bytes_eq x.session session)) xs
-
-abbrev pub kept_but : List ℕ → List KeptSeat → List KeptSeat
-kept_but session xs = filter (λ (x : KeptSeat). not (bytes_eq x.session session)) xs
-
--- after a kept seat became a seat with a fresh token
-abbrev pub retaken_seat : Seats → List ℕ → List ℕ → Seats
-retaken_seat s session fresh = record {
-  max = s.max;
-  locked = s.locked;
-  seats = s.seats ++ record { session = session; token = fresh } ∷ [];
-  reserved = s.reserved;
-  kept = kept_but session s.kept;
-  order = s.order;
-}
-
--- after a seat with this token became a kept seat
-abbrev pub kept_seat : Seats → List ℕ → List ℕ → ℕ → Seats
-kept_seat s session token lapse = record {
-  max = s.max;
-  locked = s.locked;
-  seats = seats_but session s.seats;
-  reserved = s.reserved;
-  kept = s.kept ++ record { session = session; token = token; lapse = lapse } ∷ [];
-  order = s.order;
-}
-
--- after a session left
-abbrev pub left_seat : Seats → List ℕ → Seats
-left_seat s session = record {
-  max = s.max;
-  locked = s.locked;
-  seats = seats_but session s.seats;
-  reserved = reserved_but session s.reserved;
-  kept = kept_but session s.kept;
-  order = filter (λ id. not (bytes_eq id session)) s.order;
-}
+kept_by s token = option_map (λ (e : SeatEntry). e.session) (find (λ (e : SeatEntry). is_kept_by token e.seat) s.entries)
 
 -- ---- the calls
 
 -- a reservation
 abbrev pub reserve : Seats → List ℕ → ℕ → Result Seats SeatFault
 reserve s session lapse =
-    if s.locked then Err Locked else if is_full s then Err Full else if has_entry s session then Err IdInUse else Ok (reserved_seat s session lapse)
+    if s.locked then Err Locked else if is_full s then Err Full else if is_some (seat_of s session) then Err IdInUse else Ok (reserved_seat s session lapse)
+
+-- a session has a seat with a fresh token from now on
+abbrev pub seated_with : Seats → List ℕ → List ℕ → Result Seats SeatFault
+seated_with s session fresh = if has_token s fresh then Err IdInUse else Ok (seated s session (Taken fresh))
 
 -- a reservation becomes a seat
+abbrev pub take_of : Seats → List ℕ → List ℕ → Option Seat → Result Seats SeatFault
+take_of s session fresh (Some (Reserved lapse)) = seated_with s session fresh
+take_of s session fresh (Some (Taken token)) = Err NoSeat
+take_of s session fresh (Some (Kept token lapse)) = Err NoSeat
+take_of s session fresh None = Err NoSeat
+
 abbrev pub take_seat : Seats → List ℕ → List ℕ → Result Seats SeatFault
-take_seat s session fresh =
-    if not (has_reservation s session) then Err NoSeat else if has_token s fresh then Err IdInUse else Ok (taken_seat s session fresh)
+take_seat s session fresh = take_of s session fresh (seat_of s session)
 
 -- a kept seat becomes a seat
-abbrev pub retake_kept : Seats → List ℕ → List ℕ → List ℕ → Option KeptSeat → Result Seats SeatFault
-retake_kept s session token fresh None = Err NoSeat
-retake_kept s session token fresh (Some x) =
-    if not (bytes_eq x.token token) then Err WrongToken else if has_token s fresh then Err IdInUse else Ok (retaken_seat s session fresh)
+abbrev pub retake_of : Seats → List ℕ → List ℕ → List ℕ → Option Seat → Result Seats SeatFault
+retake_of s session token fresh (Some (Reserved lapse)) = Err NoSeat
+retake_of s session token fresh (Some (Taken t)) = Err NoSeat
+retake_of s session token fresh (Some (Kept t lapse)) = if bytes_eq t token then seated_with s session fresh else Err WrongToken
+retake_of s session token fresh None = Err NoSeat
 
 abbrev pub retake : Seats → List ℕ → List ℕ → List ℕ → Result Seats SeatFault
-retake s session token fresh = retake_kept s session token fresh (kept_of s session)
+retake s session token fresh = retake_of s session token fresh (seat_of s session)
 
 -- a seat becomes a kept seat
-abbrev pub keep_seat : Seats → List ℕ → ℕ → Option Seat → Result Seats SeatFault
-keep_seat s session lapse None = Err NoSeat
-keep_seat s session lapse (Some x) = Ok (kept_seat s session x.token lapse)
+abbrev pub keep_of : Seats → List ℕ → ℕ → Option Seat → Result Seats SeatFault
+keep_of s session lapse (Some (Reserved l)) = Err NoSeat
+keep_of s session lapse (Some (Taken token)) = Ok (seated s session (Kept token lapse))
+keep_of s session lapse (Some (Kept token l)) = Err NoSeat
+keep_of s session lapse None = Err NoSeat
 
 abbrev pub keep : Seats → List ℕ → ℕ → Result Seats SeatFault
-keep s session lapse = keep_seat s session lapse (seat_of s session)
+keep s session lapse = keep_of s session lapse (seat_of s session)
 
 -- a session leaves
 abbrev pub leave : Seats → List ℕ → Result Seats SeatFault
-leave s session = if has_entry s session then Ok (left_seat s session) else Err NoSeat
+leave s session = if is_some (seat_of s session) then Ok (left_seat s session) else Err NoSeat
 
 -- the mark
 abbrev pub set_locked : Seats → Bool → Seats
-set_locked s on = record { max = s.max; locked = on; seats = s.seats; reserved = s.reserved; kept = s.kept; order = s.order }
+set_locked s on = record { max = s.max; locked = on; entries = s.entries }
 
 -- ---- a lapse
 
@@ -121,11 +90,11 @@ pub record Lapse : Type 0 where
   pub session : List ℕ
   pub at : ℕ
 
--- when the reservation or the kept seat of a session lapses
-abbrev pub lapse_of : Seats → List ℕ → Option ℕ
-lapse_of s session = option_or
-    (option_map (λ (x : Reservation). x.lapse) (find (λ (x : Reservation). bytes_eq x.session session) s.reserved))
-    (option_map (λ (x : KeptSeat). x.lapse) (kept_of s session))
+-- when a seat lapses
+abbrev pub lapse_of : Seat → Option ℕ
+lapse_of (Reserved lapse) = Some lapse
+lapse_of (Taken token) = None
+lapse_of (Kept token lapse) = Some lapse
 
 -- an entry that lapses by a moment
 abbrev pub due_at : ℕ → List ℕ → Option ℕ → List Lapse
@@ -134,7 +103,7 @@ due_at now session (Some at) = if nat_le at now then record { session = session;
 
 -- the entries that lapse by a moment, in the order of reserving
 abbrev pub due_entries : Seats → ℕ → List Lapse
-due_entries s now = flat_map (λ session. due_at now session (lapse_of s session)) s.order
+due_entries s now = flat_map (λ (e : SeatEntry). due_at now e.session (lapse_of e.seat)) s.entries
 
 -- the one that lapses first; of two at one moment the first of the list
 abbrev pub earlier : Lapse → Option Lapse → Lapse

@@ -1,6 +1,6 @@
 -- A room's value and its step: reservations, openings, frames, losses, moments, acts and ticks.
 -- After Colyseus 0.16; the moment of the full state is ours.
-use Rattle.std.specs.Prelude.{ℕ, ◌+◌, Bool, true, false, List, [], ◌∷◌, ◌++◌, length, map, pos, Option, Some, None, Result, Ok, Err, nat_lt, is_some, if◌then◌else◌, codes}
+use Rattle.std.specs.Prelude.{ℕ, ◌+◌, true, false, List, [], ◌∷◌, ◌++◌, length, map, pos, Option, Some, None, Result, Ok, Err, nat_lt, if◌then◌else◌, codes}
 use Rattle.std.specs.List.{flat_map}
 use Rattle.std.specs.Option.{option_map}
 use Rattle.state_model.specs.Reached.{times}
@@ -32,8 +32,8 @@ use Rattle.room_model.specs.declared.refusal.Refusal.{Refusal}
 use Rattle.room_model.specs.declared.refusal.Refusal.TheVariants as refusal
 use Rattle.room_model.specs.declared.seat.SeatFault.{SeatFault}
 use Rattle.room_model.specs.declared.seat.SeatFault.TheVariants.{IdInUse}
-use Rattle.room_model.specs.Seats.{Seats, new_seats, has_reservation, reserved_seat}
-use Rattle.room_model.specs.Ledger.{take_seat, retake, keep, kept_of, left_seat, expire, set_locked}
+use Rattle.room_model.specs.Seats.{Seats, new_seats, seat_of, is_kept_seat, has_reservation, reserved_seat, left_seat}
+use Rattle.room_model.specs.Ledger.{take_seat, retake, keep, expire, set_locked}
 use Rattle.room_model.specs.Sessions.{Session, Acted, session_of, change_session, sessions_but, is_connected, at_stage, with_queue, told_to, view_added_to, view_removed_from, keep_set}
 
 -- a room: its schema, definition and criteria, its state, the shared rows at the last tick, its places, and its sessions in the order of reserving
@@ -159,14 +159,14 @@ after_loss r session now = where_connected r (session_of r.sessions session) (af
 -- ---- a moment: what lapses by it ends, one entry after another; a kept seat is told
 
 abbrev pub lapse_outs : Seats → List ℕ → List RoomOut
-lapse_outs seats session = if is_some (kept_of seats session) then out.Left session ∷ [] else []
+lapse_outs seats session = if is_kept_seat (seat_of seats session) then out.Left session ∷ [] else []
 
 abbrev pub after_lapse : RoomValue × List RoomOut → Option (List ℕ × Seats) → RoomValue × List RoomOut
 after_lapse so_far None = so_far
 after_lapse so_far (Some entry) = (ended so_far.0 entry.0, so_far.1 ++ lapse_outs so_far.0.seats entry.0)
 
 abbrev pub after_moment : RoomValue → ℕ → RoomValue × List RoomOut
-after_moment r now = times (length r.seats.order) (λ (so_far : RoomValue × List RoomOut). after_lapse so_far (expire so_far.0.seats now)) (r, [])
+after_moment r now = times (length r.seats.entries) (λ (so_far : RoomValue × List RoomOut). after_lapse so_far (expire so_far.0.seats now)) (r, [])
 
 -- ---- a command
 

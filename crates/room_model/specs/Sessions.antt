@@ -1,6 +1,6 @@
 -- The sessions of a room, and what is done to one: messages that wait or are sent, view edits, keep times.
 -- After Colyseus 0.16 and the StateView of `@colyseus/schema` 3; the limits are ours.
-use Rattle.std.specs.Prelude.{ℕ, Bool, true, false, List, [], ◌∷◌, ◌++◌, length, map, Option, Some, None, Result, Ok, Err, nat_lt, not, filter, if◌then◌else◌}
+use Rattle.std.specs.Prelude.{ℕ, Bool, true, false, List, [], ◌∷◌, ◌++◌, length, map, Option, Result, Ok, Err, nat_lt, not, filter, if◌then◌else◌}
 use Rattle.std.specs.List.{find}
 use Rattle.std.specs.Str.{bytes_eq}
 use Rattle.room_model.specs.Limits.{most_queued}

@@ -11,4 +11,4 @@ pub use definition::{Defs, Names, RoomDef, Texts, Words, copy_texts};
 pub use event::{Act, RoomEvent, RoomOut, RoomOuts, Stage};
 pub use limits::{LONGEST_TIME, MOST_PLACES};
 pub use refusal::Refusal;
-pub use seat::SeatFault;
+pub use seat::{Seat, SeatEntry, SeatFault};

@@ -1,5 +1,5 @@
 -- An opening: each way in which it may go, and what it makes of a life that goes on.
-use Rattle.std.proofs.Common.{◌≡◌, ℕ, Bool, true, false, not, cond, ◌&&◌, List, [], ◌∷◌, ◌++◌, Option, Some, None, is_some, Result, Ok, Err, refl, sym, ap, ap₂, subst, ◌∙◌}
+use Rattle.std.proofs.Common.{◌≡◌, ℕ, Bool, true, false, not, cond, ◌&&◌, List, [], ◌∷◌, ◌++◌, Option, Some, None, Result, Ok, Err, refl, sym, ap, ap₂, subst, ◌∙◌}
 use Rattle.std.specs.List.{flat_map}
 use Rattle.std.specs.Option.{option_map, option_map_or}
 use Rattle.std.specs.Str.{bytes_eq}
@@ -12,11 +12,14 @@ use Rattle.room_model.specs.declared.event.Stage.{Stage}
 use Rattle.room_model.specs.declared.event.Stage.TheVariants.{Reserved, Joining, Due, Live, Kept}
 use Rattle.room_model.specs.declared.seat.SeatFault.{SeatFault}
 use Rattle.room_model.specs.declared.seat.SeatFault.TheVariants as fault
-use Rattle.room_model.specs.Seats.{Seats, KeptSeat, has_reservation}
-use Rattle.room_model.specs.Ledger.{kept_of, take_seat, retake_kept}
+use Rattle.room_model.specs.declared.seat.Seat.{Seat}
+use Rattle.room_model.specs.declared.seat.Seat.TheVariants as seat
+use Rattle.room_model.specs.Seats.{Seats, seat_of, is_kept_seat, has_reservation}
+use Rattle.room_model.specs.Ledger.{take_seat, retake_of}
 use Rattle.room_model.specs.Sessions.{Session, session_of, change_session, at_stage}
 use Rattle.room_model.specs.Room.{RoomValue, opened_by, after_enter, after_return, join_frame}
 use Rattle.room_laws.specs.Placed.{Placed, is_reserved, is_kept}
+use Rattle.room_laws.proofs.AlikeLists.{has_reserved, has_kept}
 use Rattle.life_model.specs.Entries.{Entry, Record, Opened, Sending, Frame}
 use Rattle.life_model.specs.Lives.{entry_if, is_at, is_open}
 use Rattle.life_model.specs.Sent as standing
@@ -68,21 +71,23 @@ module _ (P : RoomValue × List RoomOut → Type 0) (r : RoomValue) (session fre
   by_answer told (Err fault.NoSeat) given rests = no_seat
   by_answer told (Err fault.WrongToken) given rests = no_seat
 
-  by_kept : (token : List ℕ) (o : Option KeptSeat) → kept_of r.seats session ≡ o → P (opened_by r session fresh (out.Back session) (retake_kept r.seats session token fresh o))
+  by_kept : (token : List ℕ) (o : Option Seat) → seat_of r.seats session ≡ o → P (opened_by r session fresh (out.Back session) (retake_of r.seats session token fresh o))
   by_kept token None found = no_seat
-  by_kept token (Some x) found =
-      by_answer (out.Back session) (retake_kept r.seats session token fresh (Some x)) (λ q. refl)
-      (λ s there. kept_rests s.stage (sym (ap (λ o. option_map_or is_kept (option_map (λ (s : Session). s.stage) o) false) there) ∙ (sym (p.kept session) ∙ ap is_some found)))
+  by_kept token (Some (seat.Reserved lapse)) found = no_seat
+  by_kept token (Some (seat.Taken t)) found = no_seat
+  by_kept token (Some (seat.Kept t lapse)) found =
+      by_answer (out.Back session) (retake_of r.seats session token fresh (Some (seat.Kept t lapse))) (λ q. refl)
+      (λ s there. kept_rests s.stage (sym (ap (λ o. option_map_or is_kept (option_map (λ (s : Session). s.stage) o) false) there) ∙ (sym (has_kept r session p) ∙ ap is_kept_seat found)))
 
   by_return : (token : Option (List ℕ)) → P (after_return r session token fresh)
   by_return None = no_seat
-  by_return (Some token) = by_kept token (kept_of r.seats session) refl
+  by_return (Some token) = by_kept token (seat_of r.seats session) refl
 
   pub enter_cases : (token : Option (List ℕ)) → P (after_enter r session token fresh)
   enter_cases token =
       let go : (b : Bool) → has_reservation r.seats session ≡ b → P (cond b (opened_by r session fresh (out.Entered session) (take_seat r.seats session fresh)) (after_return r session token fresh)) = elim [
         | true ↦ λ has. by_answer (out.Entered session) (take_seat r.seats session fresh) (λ q. refl)
-            (λ s there. reserved_rests s.stage (sym (ap (λ o. option_map_or is_reserved (option_map (λ (s : Session). s.stage) o) false) there) ∙ (sym (p.reserved session) ∙ has)))
+            (λ s there. reserved_rests s.stage (sym (ap (λ o. option_map_or is_reserved (option_map (λ (s : Session). s.stage) o) false) there) ∙ (sym (has_reserved r session p) ∙ has)))
         | false ↦ λ e. by_return token
       ] in go (has_reservation r.seats session) refl
 

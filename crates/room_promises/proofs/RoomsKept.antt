@@ -41,7 +41,7 @@ life_sees schema rows x l g live =
     let on : GoesOn schema rows x.room.sessions l = g.goes_on both.0 in
     live_sees on.session.stage schema rows (held on.session) l.outputs l.view (sym (ap (is_at is_live_stage) on.there) ∙ both.1) on.fits.sees
 
-good_keeps : (schema : Schema) (def : RoomDef) (x : RoomRun) → GoodRun schema x → in_use x.room.seats ≤ def.max → Keeps schema def x
+good_keeps : (schema : Schema) (def : RoomDef) (x : RoomRun) → GoodRun schema x → in_use x.room.seats ≤ x.room.seats.max → Keeps schema def x
 good_keeps schema def x g within = record {
   sees = λ l there live. life_sees schema g.last.rows x l (All-contains (GoodLife schema g.last.rows x.room.sessions) x.lives l g.lives there) live;
   equal = λ l there. (All-contains (GoodLife schema g.last.rows x.room.sessions) x.lives l g.lives there).equal;
@@ -59,7 +59,7 @@ rooms_keep schema def criteria events can =
     good_keeps schema def (room_run schema def criteria events)
     (runs_good schema (record { room = new_room schema def criteria; lives = [] }) events can.schema_kept can.taken can.worded can.follow
     (record { last = new_state schema; room = new_good schema def criteria can.schema_kept; lives = All-nil _ }))
-    (subst (λ (r : RoomValue). in_use r.seats ≤ def.max) (sym (run_room (record { room = new_room schema def criteria; lives = [] }) events)) (rooms_keep_places schema def criteria events can.follow))
+    (subst (λ (r : RoomValue). in_use r.seats ≤ r.seats.max) (sym (run_room (record { room = new_room schema def criteria; lives = [] }) events)) (rooms_keep_places schema def criteria events can.follow))
 
 pub equal_records_equal_bytes : EqualRecordsEqualBytes
 equal_records_equal_bytes schema def other criteria others events happened can may k l there here same =

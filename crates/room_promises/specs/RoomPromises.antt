@@ -21,8 +21,8 @@ pub record Keeps (schema : Schema) (def : RoomDef) (x : RoomRun) : Type 0 where
   pub sees : (l : RoomLife) → Contains x.lives l → is_live x.room l ≡ true → seen schema (latest_frames l.outputs) ≡ Ok l.view
   -- what a life's connection was given is what its record is sent
   pub equal : (l : RoomLife) → Contains x.lives l → l.outputs ≡ sent schema l.entries
-  -- the seats, reservations and kept seats together are at most the places of the definition
-  pub places : in_use x.room.seats ≤ def.max
+  -- the seats, reservations and kept seats together are at most the places that the room has then
+  pub places : in_use x.room.seats ≤ x.room.seats.max
 
 -- events that may happen to a new room one after another, and that it takes; the texts that they put are UTF-8, as those
 -- of every event are that a program has

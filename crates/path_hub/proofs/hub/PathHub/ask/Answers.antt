@@ -1,4 +1,4 @@
-use Rattle.std.proofs.Common.{◌≡◌, ◌∙◌, refl, sym}
+use Rattle.std.proofs.Common.{◌∙◌, refl, sym}
 use Rattle.path_hub.proofs.PathFacts.{no_filter, ask_outs, ask_after, ask_fits}
 use Rattle.path_hub.proofs.hub.PathHub.ask.Goals as goal
 

@@ -10,7 +10,7 @@ use Rattle.live_state.specs.Live.{schema_of, rows_of, swept_table}
 use Rattle.view_counts.specs.Settled.{view_before, view_now}
 use Rattle.room_core.specs.declared.client.Client.{Client}
 use Rattle.room_core.specs.Values.{session_of_client}
-use Rattle.room_core.proofs.TickedRoom.{last_tick, can_settle, shared_settled, each_stands, tick_sent, tick_sessions, tick_ids, tick_steps, same_room}
+use Rattle.room_core.proofs.TickedRoom.{last_tick, can_settle, shared_settled, each_stands, tick_sent, tick_sessions, tick_steps, same_room}
 use Rattle.room_core.proofs.parts.Parts.tick.Goals as goal
 
 pub settle-requires : goal.settle-requires
@@ -62,11 +62,10 @@ returns-clause-room g c =
     let ticked = c.in_ok-outs.ensures.clients in
     let clients = c.forget_all.ensures.clients in
     let old = p.clients.items in
-    same_room p c.end_tick.new.self.table (swept_table p.live.table) (view_now c.settle.new.self) _ (map (λ (x : Client). x.id) after) (map (λ (x : Client). x.id) old) (map session_of_client after) _
+    same_room p c.end_tick.new.self.table (swept_table p.live.table) (view_now c.settle.new.self) _ (map session_of_client after) _
     (c.end_tick.ensures ∙ freed)
     (ap view_now c.in_ok-settle.ensures.settled ∙ ap (λ (m : Members). permitted (schema_of live) (rows_of live) m.now) c.requires.stands.1
     ∙ ap (λ (t : TableState). permitted t.schema t.state.rows no_members.now) freed)
-    (tick_ids live.table (swept_table p.live.table) freed old swept clients after ticked)
     (tick_sessions live.table (swept_table p.live.table) freed old swept clients after ticked)
 
 pub returns-clause-cost : goal.returns-clause-cost

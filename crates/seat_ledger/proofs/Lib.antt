@@ -1,0 +1,4 @@
+pub mod SlotLaws
+pub mod HeldLaws
+pub mod EntryLaws
+pub mod PlaceLaws

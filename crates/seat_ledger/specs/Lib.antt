@@ -1,0 +1,6 @@
+pub mod Calls
+pub mod Slots
+pub mod Keys
+pub mod Held
+pub mod Places
+pub mod SlotValues

@@ -1,0 +1,11 @@
+//! The seats, reservations and kept seats of a room.
+#![tactic(auto)]
+
+mod index;
+mod keys;
+mod ledger;
+mod places;
+mod slot;
+
+pub use ledger::SeatLedger;
+pub use room_model::{Seat, SeatEntry, SeatFault};
