@@ -3,6 +3,9 @@
 /// A server's welcome; a client's acknowledgement of it.
 pub const JOIN_ROOM: u8 = 10;
 
+/// A client that leaves.
+pub const LEAVE_ROOM: u8 = 12;
+
 /// A full state.
 pub const ROOM_STATE: u8 = 14;
 

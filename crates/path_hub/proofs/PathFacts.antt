@@ -10,7 +10,9 @@ use Rattle.lists.proofs.SameBytes.{bytes_eq_self}
 use Rattle.schema_model.specs.Classes.{Schema, Declared, is_kept, item_in_range, item_of}
 use Rattle.schema_model.specs.declared.class.FieldDecl.{FieldDecl}
 use Rattle.plain_rows.specs.Numbers.{is_number_schema}
-use Rattle.text_model.specs.Paths.{path_schema, number_field, event_of, is_within}
+use Rattle.room_model.specs.Definitions.{is_room_def}
+use Rattle.text_model.specs.Paths.{path_schema, number_field, event_of}
+use Rattle.room_model.proofs.DefinitionParts.{def_within}
 use Rattle.text_model.specs.declared.path.FirstPath.{FirstPath}
 use Rattle.path_hub.specs.PathHub.{is_playable, hub_of, Fits}
 use Rattle.hub_model.specs.Hub.{hub_step, asked, asked_def, with_rooms}
@@ -77,7 +79,7 @@ empty_of_length (x ∷ xs) h = grind (arith, nat_tests, h)
 
 -- a playable schedule filters by nothing
 pub no_filter : (p : FirstPath) → is_playable p ≡ true → p.def.filter ≡ []
-no_filter p h = empty_of_length _ (and_parts _ _ (and_parts _ _ h).0).1
+no_filter p h = empty_of_length _ (and_parts _ _ h).1
 
 -- its ids are ids
 pub record HasIds (p : FirstPath) : Type 0 where
@@ -87,7 +89,7 @@ pub record HasIds (p : FirstPath) : Type 0 where
 
 pub has_ids : (p : FirstPath) → is_playable p ≡ true → HasIds p
 has_ids p h =
-    let to_session = (and_parts _ _ (and_parts _ _ (and_parts _ _ (and_parts _ _ h).0).0).0).0 in
+    let to_session = (and_parts _ _ (and_parts _ _ (and_parts _ _ h).0).0).0 in
     let to_room = (and_parts _ (is_id p.session) to_session).0 in
     record {
       process = (and_parts (is_number_schema (path_schema p)) (is_id p.process) (and_parts _ (is_id p.room) to_room).0).1;
@@ -95,15 +97,17 @@ has_ids p h =
       session = (and_parts _ (is_id p.session) to_session).1;
     }
 
+-- a room may be made of its definition
+pub valid_def : (p : FirstPath) → is_playable p ≡ true → is_room_def p.def ≡ true
+valid_def p h = (and_parts _ (is_room_def p.def) (and_parts _ _ h).0).1
+
 -- its room has a place
 pub has_place : (p : FirstPath) → is_playable p ≡ true → 1 ≤ p.def.max
-has_place p h =
-    let within = (and_parts _ (is_within 1 64 p.def.max) (and_parts _ _ (and_parts _ _ h).0).0).1 in
-    leb-true 1 p.def.max (and_parts _ _ within).0
+has_place p h = leb-true 1 p.def.max (and_parts _ _ (def_within p.def (valid_def p h)).max).0
 
 -- its reservation lapses within an hour
 pub seat_within : (p : FirstPath) → is_playable p ≡ true → p.def.seat ≤ 3600000
-seat_within p h = leb-true p.def.seat 3600000 (and_parts _ _ (and_parts _ _ h).1).1
+seat_within p h = leb-true p.def.seat 3600000 (and_parts _ _ (def_within p.def (valid_def p h)).seat).1
 
 -- the one definition is the one that its own target asks for
 own_def : (d : RoomDef) → asked_def (d ∷ []) (join_or_create_target d.name) ≡ Some d

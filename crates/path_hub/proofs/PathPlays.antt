@@ -4,7 +4,8 @@ use Rattle.std.specs.List.{list_all}
 use Rattle.std.proofs.lemmas.Bool.{and_parts, and_from}
 use Rattle.plain_rows.specs.Numbers.{is_number_field, is_number_schema}
 use Rattle.text_model.specs.Marks.{is_room_name}
-use Rattle.text_model.specs.Paths.{Path, is_path, first_path, items_of, path_schema, number_field, is_turn, is_later_turn, is_within}
+use Rattle.text_model.specs.Paths.{Path, is_path, first_path, items_of, path_schema, number_field, is_turn, is_later_turn}
+use Rattle.text_model.proofs.DefForms.{definition_named}
 use Rattle.text_model.specs.declared.path.Item.{Item}
 use Rattle.text_model.specs.declared.path.Item.TheVariants.{At, Ask, Open, Acknowledge, Put, Tick}
 use Rattle.text_model.proofs.PathForms.{Fits, fits_of}
@@ -32,13 +33,9 @@ path_numbers p h = schema_plays p (fits_of p h)
 pub path_plays : (p : Path) → is_path p ≡ true → is_playable (first_path p) ≡ true
 path_plays p h =
     let f = fits_of p h in
-    let filter = and_parts _ (length p.def.filter == 0) f.definition in
-    let keep = and_parts _ (is_within 0 3600000 p.def.keep) filter.0 in
-    let patch = and_parts _ (is_within 1 3600000 p.def.patch) keep.0 in
-    let seat = and_parts _ (is_within 1 3600000 p.def.seat) patch.0 in
-    let max = and_parts (is_room_name p.def.name) (is_within 1 64 p.def.max) seat.0 in
+    let named = definition_named p.def f.definition in
     let ids = and_from _ _ (and_from _ _ (and_from _ _ (schema_plays p f) f.process_id) f.room_id) f.session_id in
-    and_from _ _ (and_from _ _ (and_from _ _ (and_from _ _ ids max.0) max.1) filter.1) seat.1
+    and_from _ _ (and_from _ _ (and_from _ _ ids named.name) named.valid) named.unfiltered
 
 -- ---- the events
 

@@ -6,7 +6,7 @@ use Rattle.room_core.specs.Values.{Held}
 use Rattle.plain_rows.specs.Numbers.{is_number_schema}
 use Rattle.std.specs.Option.{option_map}
 use Rattle.std.specs.Prelude.{IsTrue}
-use Rattle.room_model.specs.Limits.{most_places, longest_time}
+use Rattle.room_model.specs.Definitions.{is_room_def}
 use Rattle.room_model.specs.declared.event.RoomEvent.{RoomEvent}
 use Rattle.room_model.specs.declared.seat.Seat.TheVariants as seat
 use Rattle.room_model.specs.Sessions.{session_of}
@@ -14,7 +14,7 @@ use Rattle.room_model.specs.Room.{RoomValue, room_step}
 use Rattle.room_laws.specs.Places.{may_happen, is_connected_in}
 use Rattle.room_like.specs.Taken.{is_taken}
 use Rattle.text_model.specs.Marks.{is_id, is_room_name}
-use Rattle.text_model.specs.Paths.{path_schema, is_within}
+use Rattle.text_model.specs.Paths.{path_schema}
 use Rattle.text_model.specs.declared.path.Item.{Item}
 use Rattle.text_model.specs.declared.path.Item.TheVariants.{Ask, Put}
 use Rattle.text_model.specs.declared.path.FirstPath.{FirstPath}
@@ -58,12 +58,12 @@ Fits p None (Some conn) = ⊥
 Fits p (Some h) None = Waits p.session h.room
 Fits p (Some h) (Some conn) = HasCome p.session h.room
 
--- the schema is of numbers, the ids and the room's name are ASCII, the room has a place, nothing is filtered by, and a
--- reservation lapses within an hour
+-- the schema is of numbers, the ids and the room's name are ASCII, a room may be made of the definition, and nothing is
+-- filtered by
 abbrev pub is_playable : FirstPath → Bool
 is_playable p =
     is_number_schema (path_schema p) && is_id p.process && is_id p.room && is_id p.session && is_room_name p.def.name
-    && is_within 1 most_places p.def.max && (length p.def.filter == 0) && is_within 1 longest_time p.def.seat
+    && is_room_def p.def && (length p.def.filter == 0)
 
 -- whether an event may come: a request only once, and a put only to a field of the class
 abbrev pub may_come : ℕ → Bool → Item → Bool

@@ -61,13 +61,13 @@ outcome (Err f) does old new r h tells = elim (refused_answer f does old new h) 
 -- ---- the room
 
 -- it stands as it did, and so does what else held
-pub command_stands : (shared : View) (cs : List Client) (live after : Live) (c : Command) (a : Result (Option ℕ) TableFault) (r : Result (List RoomOut) Memory) (T : Type 0)
+pub command_stands : (shared : View) (cs : List Client) (live after : Live) (c : Command) (a : Result (Option ℕ) TableFault) (r : Result (List RoomOut) Memory) (S T : Type 0)
     → Answers (do_command (schema_of live) live.table.state c) live.table after.table a → AnswerTells a r → IsKept (schema_of live) live.table.state → schema_of after ≡ schema_of live
-    → IsLater live.table.state after.table.state → Stands live shared cs × T → OnOk r (Stands after shared cs × T)
-command_stands shared cs live after c a r T answers tells kept same later s =
+    → IsLater live.table.state after.table.state → Stands live shared cs × S × T → OnOk r (Stands after shared cs × S × T)
+command_stands shared cs live after c a r S T answers tells kept same later s =
     let does = do_command (schema_of live) live.table.state c in
     elim (outcome a does live.table after.table r answers tells) [
-      | inl e ↦ on_ok_err (Stands after shared cs × T) r e
-      | inr (inl d) ↦ on_ok (Stands after shared cs × T) r (stands_answered live after shared cs c d.made kept same later d.does_so s.0, s.1)
-      | inr (inr d) ↦ on_ok (Stands after shared cs × T) r (subst (λ (t : TableState). Stands (let l : Live = record { table = t } in l) shared cs) (sym d) s.0, s.1)
+      | inl e ↦ on_ok_err (Stands after shared cs × S × T) r e
+      | inr (inl d) ↦ on_ok (Stands after shared cs × S × T) r (stands_answered live after shared cs c d.made kept same later d.does_so s.0, s.1, s.2)
+      | inr (inr d) ↦ on_ok (Stands after shared cs × S × T) r (subst (λ (t : TableState). Stands (let l : Live = record { table = t } in l) shared cs) (sym d) s.0, s.1, s.2)
     ]

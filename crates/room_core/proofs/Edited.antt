@@ -1,11 +1,10 @@
 -- What a view edit makes of a room, by the client that it changes.
-use Rattle.std.proofs.Common.{◌≡◌, ℕ, List, map, set, Option, Some, None, Result, Ok, Err, sym, ap, ◌∙◌}
-use Rattle.std.specs.Prelude.{IfOk, OnOk, slice_get}
-use Rattle.std.specs.List.{position}
+use Rattle.std.proofs.Common.{◌≡◌, ℕ, List, map, set, Option, Some, None, Result, Ok, Err, refl, sym, ap, ◌∙◌}
+use Rattle.std.specs.Prelude.{IfOk, OnErr, OnOk, slice_get}
 use Rattle.room_model.specs.declared.definition.RoomDef.{RoomDef}
 use Rattle.room_model.specs.declared.event.RoomOut.{RoomOut}
 use Rattle.room_model.specs.declared.refusal.Refusal.{Refusal}
-use Rattle.room_model.specs.Sessions.{Session, Acted, session_of, change_session}
+use Rattle.room_model.specs.Sessions.{Session, Acted, session_of}
 use Rattle.room_model.specs.Room.{RoomValue, with_sessions, acted_on, on_session}
 use Rattle.room_laws.specs.Placed.{AreDistinct}
 use Rattle.live_state.specs.Live.{Live}
@@ -15,7 +14,7 @@ use Rattle.room_model.specs.Seats.{Seats}
 use Rattle.room_core.specs.Steps.{EditTells, refused_outs}
 use Rattle.room_core.specs.Values.{room_with, session_of_client}
 use Rattle.std.specs.Option.{option_map}
-use Rattle.room_core.proofs.ClientLists.{is_named, place_found, place_missed, session_at, set_there, set_same}
+use Rattle.room_core.proofs.ClientLists.{named_there, changed_there, set_same}
 
 -- ---- results
 
@@ -27,6 +26,10 @@ pub on_ok : {X E : Type 0} (T : Type 0) (r : Result X E) → T → OnOk r T
 on_ok T (Ok x) h = h
 on_ok T (Err e) h = tt
 
+pub on_err : {X E : Type 0} (T : Type 0) (r : Result X E) → T → OnErr r T
+on_err T (Ok x) h = tt
+on_err T (Err e) h = h
+
 -- ---- a room with these clients
 
 module _ (def : RoomDef) (criteria : List (List ℕ)) (live : Live) (shared : View) (places : Seats) (cs : List Client) (id : List ℕ) (does : Session → Result Acted Refusal) where
@@ -34,30 +37,22 @@ module _ (def : RoomDef) (criteria : List (List ℕ)) (live : Live) (shared : Vi
   room_at clients = room_with def criteria live shared places clients
 
   -- where no client has the name
-  pub missed_step : position (is_named id) cs ≡ None → on_session (room_at cs) id does ≡ acted_on (room_at cs) id None
-  missed_step missed = ap (λ o. acted_on (room_at cs) id (option_map does o)) (place_missed id cs missed)
+  pub missed_step : session_of (map session_of_client cs) id ≡ None → on_session (room_at cs) id does ≡ acted_on (room_at cs) id None
+  missed_step missed = ap (λ o. acted_on (room_at cs) id (option_map does o)) missed
 
-  module _ (at : ℕ) (found : position (is_named id) cs ≡ Some at) (c d : Client) (there : slice_get cs at ≡ Some c) where
-    own : session_of (map session_of_client cs) id ≡ Some (session_of_client c)
-    own = session_at id cs at found c there
-
+  -- where one does
+  module _ (distinct : AreDistinct (map session_of_client cs)) (at : ℕ) (c d : Client) (there : slice_get cs at ≡ Some c) (name : c.id ≡ id) where
     step_is : on_session (room_at cs) id does ≡ acted_on (room_at cs) id (Some (does (session_of_client c)))
-    step_is = ap (λ o. acted_on (room_at cs) id (option_map does o)) own
+    step_is = ap (λ o. acted_on (room_at cs) id (option_map does o)) (named_there id cs at c distinct there name)
 
     pub edited_outs : (refusal : Option Refusal) → EditTells (does (session_of_client c)) c d refusal → (on_session (room_at cs) id does).1 ≡ refused_outs refusal
     edited_outs None tells = ap (λ (x : RoomValue × List RoomOut). x.1) step_is ∙ ap (λ a. (acted_on (room_at cs) id (Some a)).1) tells
     edited_outs (Some f) tells = ap (λ (x : RoomValue × List RoomOut). x.1) step_is ∙ ap (λ a. (acted_on (room_at cs) id (Some a)).1) tells.0
 
-    changed_room : AreDistinct (map session_of_client cs) → d.id ≡ c.id → room_at (set cs at d) ≡ with_sessions (room_at cs) (change_session id (λ s. session_of_client d) (map session_of_client cs))
-    changed_room distinct same =
-        let place = place_found id cs at found in
-        let sessions : map session_of_client (set cs at d) ≡ change_session id (λ s. session_of_client d) (map session_of_client cs) =
-        ap (λ k. map session_of_client (set cs k d)) place.0 ∙ set_there id cs d distinct place.1 in
-        ap (λ ss. with_sessions (room_at cs) ss) sessions
-
-    pub edited_room : AreDistinct (map session_of_client cs) → d.id ≡ c.id → (refusal : Option Refusal) → EditTells (does (session_of_client c)) c d refusal → room_at (set cs at d) ≡ (on_session (room_at cs) id does).0
-    edited_room distinct same None tells =
-        changed_room distinct same ∙ sym (ap (λ (x : RoomValue × List RoomOut). x.0) step_is ∙ ap (λ a. (acted_on (room_at cs) id (Some a)).0) tells)
-    edited_room distinct same (Some f) tells =
+    pub edited_room : (refusal : Option Refusal) → EditTells (does (session_of_client c)) c d refusal → room_at (set cs at d) ≡ (on_session (room_at cs) id does).0
+    edited_room None tells =
+        ap (λ ss. with_sessions (room_at cs) ss) (changed_there id (λ s. session_of_client d) cs at c d distinct there name refl)
+        ∙ sym (ap (λ (x : RoomValue × List RoomOut). x.0) step_is ∙ ap (λ a. (acted_on (room_at cs) id (Some a)).0) tells)
+    edited_room (Some f) tells =
         ap (λ x. room_at (set cs at x)) tells.1 ∙ ap room_at (set_same cs at c there)
         ∙ sym (ap (λ (x : RoomValue × List RoomOut). x.0) step_is ∙ ap (λ a. (acted_on (room_at cs) id (Some a)).0) tells.0)

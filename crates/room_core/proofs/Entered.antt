@@ -1,9 +1,7 @@
--- What an opening and an acknowledgement make of a room, by its clients.
-use Rattle.std.proofs.Common.{◌≡◌, ℕ, Bool, true, false, cond, List, [], ◌∷◌, map, Option, Some, None, Result, Ok, Err, refl, sym, ap, ◌∙◌}
+-- What an opening and an acknowledgement make of a room, by the client of the session.
+use Rattle.std.proofs.Common.{◌≡◌, ℕ, Bool, true, false, cond, List, [], ◌∷◌, map, set, Option, Some, None, Ok, Err, refl, sym, ap, ◌∙◌}
+use Rattle.std.specs.Prelude.{slice_get}
 use Rattle.std.specs.Option.{option_map_or}
-use Rattle.lists.proofs.SameBytes.{same_bytes}
-use Rattle.frame_model.specs.Frames.{client_bytes}
-use Rattle.frame_model.specs.declared.frame.ClientFrame.TheVariants as client
 use Rattle.room_model.specs.declared.definition.RoomDef.{RoomDef}
 use Rattle.room_model.specs.declared.event.RoomOut.{RoomOut}
 use Rattle.room_model.specs.declared.event.RoomOut.TheVariants as out
@@ -13,22 +11,20 @@ use Rattle.room_model.specs.declared.seat.Seat.{Seat}
 use Rattle.room_model.specs.declared.seat.Seat.TheVariants as seat
 use Rattle.room_model.specs.declared.seat.SeatFault.{SeatFault}
 use Rattle.room_model.specs.declared.seat.SeatFault.TheVariants as fault
-use Rattle.room_model.specs.Seats.{Seats, seat_of, is_kept_seat, has_reservation}
+use Rattle.room_model.specs.Seats.{Seats, seat_of, is_kept_seat, is_reservation, has_reservation}
 use Rattle.room_model.specs.Ledger.{take_seat, retake_of}
 use Rattle.room_model.specs.Sessions.{Session, session_of, change_session, is_connected, at_stage}
-use Rattle.room_model.specs.Room.{RoomValue, with_sessions, after_enter, after_read, after_return, after_frame, where_connected, acknowledged, acknowledged_at, opened_by}
-use Rattle.room_laws.specs.Placed.{Placed, is_reserved, is_kept}
-use Rattle.room_laws.specs.Places.{is_connected_in}
+use Rattle.room_model.specs.Room.{RoomValue, with_sessions, after_enter, after_return, acknowledged, acknowledged_at, opened_by}
+use Rattle.room_laws.specs.Placed.{Placed, AreDistinct, is_reserved, is_kept}
 use Rattle.room_laws.proofs.AlikeLists.{has_reserved, has_kept}
 use Rattle.room_laws.proofs.PlacedSteps.{there_at, reserved_alone, kept_alone}
-use Rattle.room_like.specs.Taken.{is_acknowledgement}
 use Rattle.live_state.specs.Live.{Live as State-now}
 use Rattle.view_counts.specs.Settled.{View}
 use Rattle.room_core.specs.declared.client.Client.{Client}
-use Rattle.room_core.specs.Entries.{Does, entered, returned, told_first, opening_outs, refused_opening}
-use Rattle.room_core.specs.Steps.{change_client, client_at, acknowledged_stage}
+use Rattle.room_core.specs.Entries.{entered, returned, told_first, opening_outs, refused_opening}
+use Rattle.room_core.specs.Steps.{client_at, acknowledged_stage}
 use Rattle.room_core.specs.Values.{room_with, session_of_client}
-use Rattle.room_core.proofs.ClientLists.{changed_sessions}
+use Rattle.room_core.proofs.ClientLists.{named_there, changed_there}
 
 -- an acknowledged client is an acknowledged session
 acknowledged_client : (stage : Stage) (c : Client) → c.stage ≡ stage → session_of_client (client_at (acknowledged_stage stage) c) ≡ acknowledged_at stage (session_of_client c)
@@ -61,15 +57,6 @@ refused_room r session fresh told fault.Full = refl
 refused_room r session fresh told fault.NoSeat = refl
 refused_room r session fresh told fault.WrongToken = refl
 
--- what a call did, by its answer
-pub did : (x : Result Seats SeatFault) (old new : Seats) (done : Unit {0}) → Does x old new (Ok done) → x ≡ Ok new
-did (Ok after) old new done h = ap Ok (sym h)
-did (Err f) old new done h = absurd h
-
-pub did_not : (x : Result Seats SeatFault) (old new : Seats) (g : SeatFault) → Does x old new (Err g) → (x ≡ Err g) × (new ≡ old)
-did_not (Ok after) old new g h = absurd h
-did_not (Err f) old new g h = (ap Err (sym h.0), h.1)
-
 -- a session that is entered had no connection
 pub entered_apart : (r : RoomValue) (session : List ℕ) (token : Option (List ℕ)) (fresh : List ℕ) (now : Seats) → Placed r → entered r.seats session token fresh ≡ Ok now
     → (s : Session) × (session_of r.sessions session ≡ Some s) × (is_connected s.stage ≡ false)
@@ -94,46 +81,48 @@ module _ (def : RoomDef) (criteria : List (List ℕ)) (live : State-now) (shared
   abbrev room_at : Seats → List Client → RoomValue
   room_at seats clients = room_with def criteria live shared seats clients
 
-  -- clients that are changed
-  changed_room : (seats : Seats) (f : Client → Client) (g : Session → Session) → ((c : Client) → session_of_client (f c) ≡ g (session_of_client c))
-      → room_at seats (change_client session f cs) ≡ with_sessions (room_at seats cs) (change_session session g (map session_of_client cs))
-  changed_room seats f g same = ap (λ ss. with_sessions (room_at seats cs) ss) (changed_sessions session f g same cs)
-
-  -- the acknowledgement of a connected session
-  pub acknowledge_room : (places : Seats) (ds : List Client) (bytes : List ℕ) → is_acknowledgement bytes ≡ true → is_connected_in (room_at places cs) session ≡ true
-      → ds ≡ change_client session (λ (c : Client). client_at (acknowledged_stage c.stage) c) cs → room_at places ds ≡ (after_frame (room_at places cs) session bytes).0
-  acknowledge_room places ds bytes is connected changed =
-      ap (room_at places) changed
-      ∙ (changed_room places (λ (c : Client). client_at (acknowledged_stage c.stage) c) acknowledged (λ c. acknowledged_client c.stage c refl)
-      ∙ sym (ap (λ bs. (after_frame r session bs).0) (same_bytes bytes (client_bytes client.Ack) is) ∙ framed (session_of r.sessions session) refl connected))
-    where
-      r : RoomValue
-      r = room_at places cs
-
-      framed : (o : Option Session) → session_of r.sessions session ≡ o → option_map_or (λ (s : Session). is_connected s.stage) o false ≡ true
-          → (after_frame r session (client_bytes client.Ack)).0 ≡ with_sessions r (change_session session acknowledged r.sessions)
-      framed None found on = absurd (cc)
-      framed (Some s) found on =
-          let happens : Session → RoomValue × List RoomOut = λ x. after_read r session (Ok client.Ack) in
-          ap (λ o. (where_connected r o happens).0) found ∙ ap (λ b. (cond b (happens s) (r, [])).0) on
-
-  -- an opening that isn't refused
-  pub enter_room : (old now : Seats) (ds : List Client) (token : Option (List ℕ)) (fresh : List ℕ) → entered old session token fresh ≡ Ok now → ds ≡ change_client session (client_at Joining) cs
-      → room_at now ds ≡ (after_enter (room_at old cs) session token fresh).0
-  enter_room old now ds token fresh taken changed =
-      ap (room_at now) changed
-      ∙ (changed_room now (client_at Joining) (at_stage Joining) (λ c. refl)
-      ∙ sym (ap (λ (x : RoomValue × List RoomOut). x.0) (after_entered (room_at old cs) session token fresh)
-      ∙ ap (λ x. (opened_by (room_at old cs) session fresh (told_first old session) x).0) taken))
-
-  pub enter_outs : (old now : Seats) (token : Option (List ℕ)) (fresh : List ℕ) → entered old session token fresh ≡ Ok now → opening_outs old session fresh ≡ (after_enter (room_at old cs) session token fresh).1
-  enter_outs old now token fresh taken =
-      sym (ap (λ (x : RoomValue × List RoomOut). x.1) (after_entered (room_at old cs) session token fresh)
-      ∙ ap (λ x. (opened_by (room_at old cs) session fresh (told_first old session) x).1) taken)
-
-  -- one that is
+  -- one that is refused
   pub refused_step : (old : Seats) (token : Option (List ℕ)) (fresh : List ℕ) (f : SeatFault) → entered old session token fresh ≡ Err f
       → after_enter (room_at old cs) session token fresh ≡ (room_at old cs, refused_opening session f ∷ [])
   refused_step old token fresh f refused =
       after_entered (room_at old cs) session token fresh
       ∙ (ap (opened_by (room_at old cs) session fresh (told_first old session)) refused ∙ refused_room (room_at old cs) session fresh (told_first old session) f)
+
+  -- one that isn't
+  pub enter_outs : (old now : Seats) (token : Option (List ℕ)) (fresh : List ℕ) → entered old session token fresh ≡ Ok now → opening_outs old session fresh ≡ (after_enter (room_at old cs) session token fresh).1
+  enter_outs old now token fresh taken =
+      sym (ap (λ (x : RoomValue × List RoomOut). x.1) (after_entered (room_at old cs) session token fresh)
+      ∙ ap (λ x. (opened_by (room_at old cs) session fresh (told_first old session) x).1) taken)
+
+  -- one of a session that isn't there
+  pub missed_opening : (old : Seats) (token : Option (List ℕ)) (fresh : List ℕ) → seat_of old session ≡ None → after_enter (room_at old cs) session token fresh ≡ (room_at old cs, out.NoSeat session ∷ [])
+  missed_opening old token fresh gone = ap (λ o. cond (is_reservation o) (opened_by r session fresh (out.Entered session) (take_seat old session fresh)) (after_return r session token fresh)) gone ∙ by_token token
+    where
+      r : RoomValue
+      r = room_at old cs
+
+      by_token : (o : Option (List ℕ)) → after_return r session o fresh ≡ (r, out.NoSeat session ∷ [])
+      by_token None = refl
+      by_token (Some t) = ap (λ o. opened_by r session fresh (out.Back session) (retake_of old session t fresh o)) gone
+
+  module _ (distinct : AreDistinct (map session_of_client cs)) (at : ℕ) (c : Client) (there : slice_get cs at ≡ Some c) (name : c.id ≡ session) where
+    -- the room whose client changes there
+    changed_room : (seats : Seats) (d : Client) (g : Session → Session) → session_of_client d ≡ g (session_of_client c)
+        → room_at seats (set cs at d) ≡ with_sessions (room_at seats cs) (change_session session g (map session_of_client cs))
+    changed_room seats d g same = ap (λ ss. with_sessions (room_at seats cs) ss) (changed_there session g cs at c d distinct there name same)
+
+    pub acknowledge_room : (seats : Seats) → room_at seats (set cs at (client_at (acknowledged_stage c.stage) c)) ≡ with_sessions (room_at seats cs) (change_session session acknowledged (map session_of_client cs))
+    acknowledge_room seats = changed_room seats (client_at (acknowledged_stage c.stage) c) acknowledged (acknowledged_client c.stage c refl)
+
+    pub enter_room : (old now : Seats) (token : Option (List ℕ)) (fresh : List ℕ) → entered old session token fresh ≡ Ok now → room_at now (set cs at (client_at Joining c)) ≡ (after_enter (room_at old cs) session token fresh).0
+    enter_room old now token fresh taken =
+        changed_room now (client_at Joining c) (at_stage Joining) refl
+        ∙ sym (ap (λ (x : RoomValue × List RoomOut). x.0) (after_entered (room_at old cs) session token fresh)
+        ∙ ap (λ x. (opened_by (room_at old cs) session fresh (told_first old session) x).0) taken)
+
+    -- it had no connection
+    pub joins_apart : (old now : Seats) (token : Option (List ℕ)) (fresh : List ℕ) → Placed (room_at old cs) → entered old session token fresh ≡ Ok now → is_connected c.stage ≡ false
+    joins_apart old now token fresh p taken =
+        let found = entered_apart (room_at old cs) session token fresh now p taken in
+        let own : Some found.0 ≡ Some (session_of_client c) = sym found.1 ∙ named_there session cs at c distinct there name in
+        ap (λ o. option_map_or (λ (s : Session). is_connected s.stage) o false) (sym own) ∙ found.2

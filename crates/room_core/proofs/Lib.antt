@@ -1,11 +1,13 @@
 mod Mixed
 mod Fronts
 mod ClientLists
+mod Seated
 mod StandsLaws
 mod Edited
 mod Commanded
 mod Entered
+mod Leaves
 mod Ticked
 mod TickedAll
 mod TickedRoom
-mod Ordered
+mod Orders

@@ -1,8 +1,8 @@
 -- Clients that stand as at the last tick do so after each event but a tick.
-use Rattle.std.proofs.Common.{◌≡◌, ℕ, true, false, List, [], ◌∷◌, ◌++◌, map, set, Option, Some, Ok, get_or, sym, ap, subst, ◌∙◌, arith}
-use Rattle.std.specs.Prelude.{All}
-use Rattle.std.specs.Str.{bytes_eq}
-use Rattle.std.proofs.lemmas.List.Elements.{All-append, All-cons, All-set}
+use Rattle.std.proofs.Common.{◌≡◌, ℕ, suc, true, false, List, [], ◌∷◌, ◌++◌, set, remove, take, drop, Option, Some, Ok, get_or, refl, sym, ap, subst, ◌∙◌, arith}
+use Rattle.std.specs.Prelude.{All, slice_get}
+use Rattle.std.proofs.lemmas.List.Elements.{All-append, All-cons, All-drop, All-set, All-take}
+use Rattle.std.proofs.lemmas.Option.{get_or_from_slice_get, slice_get_within}
 use Rattle.schema_model.specs.Classes.{Schema}
 use Rattle.state_model.specs.declared.row.RowEntry.{RowEntry}
 use Rattle.state_model.specs.declared.command.Command.{Command}
@@ -14,17 +14,14 @@ use Rattle.command_laws.specs.Later.{IsLater}
 use Rattle.command_laws.proofs.LaterAgain.{later_again}
 use Rattle.room_model.specs.declared.event.Stage.{Stage}
 use Rattle.room_model.specs.declared.event.Stage.TheVariants.{Reserved, Joining, Due, Live, Kept}
-use Rattle.room_model.specs.Sessions.{Session, session_of, is_connected}
-use Rattle.room_laws.specs.Placed.{AreDistinct}
+use Rattle.room_model.specs.Sessions.{is_connected}
 use Rattle.live_state.specs.Live.{Live as State-now, schema_of, rows_of}
 use Rattle.view_counts.specs.Settled.{View, new_view}
 use Rattle.view_edits.specs.There.{are_there}
 use Rattle.view_edits.proofs.There.{command_there}
 use Rattle.room_core.specs.declared.client.Client.{Client}
 use Rattle.room_core.specs.Stands.{ViewStands, ClientStands, Stands}
-use Rattle.room_core.specs.Steps.{Edited, change_client, client_at, acknowledged_stage}
-use Rattle.room_core.specs.Values.{session_of_client}
-use Rattle.room_core.proofs.ClientLists.{all_changed, all_each, all_named}
+use Rattle.room_core.specs.Steps.{Edited, client_at, dropped_client, acknowledged_stage}
 
 -- ---- a reservation
 
@@ -35,15 +32,31 @@ fresh_stands schema last rows c at none new = record {
   pairs = ap (λ (m : Members). are_there rows m.now) none;
 }
 
+-- ---- other clients
+
+-- a room stands with other clients where each of them does
+stands_with : (live : State-now) (shared : View) (cs ds : List Client) (s : Stands live shared cs) → All (ClientStands (schema_of live) s.last.rows (rows_of live)) ds → Stands live shared ds
+stands_with live shared cs ds s each = record { last = s.last; kept = s.kept; spelled = s.spelled; later = s.later; shared_stands = s.shared_stands; each = each }
+
+-- with one more
 pub stands_more : (live : State-now) (shared : View) (cs more : List Client) (c : Client) → more ≡ cs ++ c ∷ [] → ((last : List RowEntry) → ClientStands (schema_of live) last (rows_of live) c) → Stands live shared cs → Stands live shared more
-stands_more live shared cs more c is fresh s = record {
-  last = s.last;
-  kept = s.kept;
-  spelled = s.spelled;
-  later = s.later;
-  shared_stands = s.shared_stands;
-  each = subst (All (ClientStands (schema_of live) s.last.rows (rows_of live))) (sym is) (All-append (ClientStands (schema_of live) s.last.rows (rows_of live)) cs (c ∷ []) s.each (All-cons (ClientStands (schema_of live) s.last.rows (rows_of live)) c [] (fresh s.last.rows) (λ k d within. absurd (omega arith))));
-}
+stands_more live shared cs more c is fresh s =
+    let P : Client → Type 0 = ClientStands (schema_of live) s.last.rows (rows_of live) in
+    stands_with live shared cs more s (subst (All P) (sym is) (All-append P cs (c ∷ []) s.each (All-cons P c [] (fresh s.last.rows) (λ k d within. absurd (omega arith)))))
+
+-- with one less
+pub stands_gone : (live : State-now) (shared : View) (cs : List Client) (at : ℕ) → Stands live shared cs → Stands live shared (remove cs at)
+stands_gone live shared cs at s =
+    let P : Client → Type 0 = ClientStands (schema_of live) s.last.rows (rows_of live) in
+    stands_with live shared cs (remove cs at) s (All-append P (take at cs) (drop (suc at) cs) (All-take P at cs s.each) (All-drop P (suc at) cs s.each))
+
+-- where one becomes another one
+pub stands_set : (live : State-now) (shared : View) (cs : List Client) (at : ℕ) (c d : Client) → slice_get cs at ≡ Some c
+    → ((last : List RowEntry) → ClientStands (schema_of live) last (rows_of live) c → ClientStands (schema_of live) last (rows_of live) d) → Stands live shared cs → Stands live shared (set cs at d)
+stands_set live shared cs at c d there goes s =
+    let P : Client → Type 0 = ClientStands (schema_of live) s.last.rows (rows_of live) in
+    let was : P c = subst P (get_or_from_slice_get cs at c c there) (s.each at c (slice_get_within cs at c there)) in
+    stands_with live shared cs (set cs at d) s (All-set P cs at d (goes s.last.rows was) s.each)
 
 -- ---- clients at another stage
 
@@ -57,54 +70,23 @@ module _ (schema : Schema) (last rows : List RowEntry) where
   not_settled Live m v apart stands = cc
 
   -- such a one that joins
-  joins : (c : Client) → is_connected c.stage ≡ false → ClientStands schema last rows c → ClientStands schema last rows (client_at Joining c)
+  pub joins : (c : Client) → is_connected c.stage ≡ false → ClientStands schema last rows c → ClientStands schema last rows (client_at Joining c)
   joins c apart s = record { view_stands = not_settled c.stage c.members c.view apart s.view_stands; pairs = s.pairs }
 
   -- one that is acknowledged
-  acknowledges : (stage : Stage) (c : Client) → ViewStands stage schema last c.members c.view → ViewStands (acknowledged_stage stage) schema last c.members c.view
-  acknowledges Reserved c v = v
-  acknowledges Joining c v = v
-  acknowledges Due c v = v
-  acknowledges Live c v = v
-  acknowledges Kept c v = v
+  at_acknowledged : (stage : Stage) (m : Members) (v : View) → ViewStands stage schema last m v → ViewStands (acknowledged_stage stage) schema last m v
+  at_acknowledged Reserved m v stands = stands
+  at_acknowledged Joining m v stands = stands
+  at_acknowledged Due m v stands = stands
+  at_acknowledged Live m v stands = stands
+  at_acknowledged Kept m v stands = stands
 
--- the client of a session without a connection is opened
-pub stands_joined : (live : State-now) (shared : View) (cs : List Client) (id : List ℕ) → AreDistinct (map session_of_client cs)
-    → (s : Session) × (session_of (map session_of_client cs) id ≡ Some s) × (is_connected s.stage ≡ false) → Stands live shared cs → Stands live shared (change_client id (client_at Joining) cs)
-stands_joined live shared cs id distinct found s = record {
-  last = s.last;
-  kept = s.kept;
-  spelled = s.spelled;
-  later = s.later;
-  shared_stands = s.shared_stands;
-  each = all_changed P id (client_at Joining) cs (all_named (λ (c : Client). P c → P (client_at Joining c)) id cs found.0 distinct found.1 each_joins) s.each;
-}
-  where
-    P : Client → Type 0
-    P c = ClientStands (schema_of live) s.last.rows (rows_of live) c
+  pub acknowledges : (c : Client) → ClientStands schema last rows c → ClientStands schema last rows (client_at (acknowledged_stage c.stage) c)
+  acknowledges c s = record { view_stands = at_acknowledged c.stage c.members c.view s.view_stands; pairs = s.pairs }
 
-    each_joins : (c : Client) → session_of_client c ≡ found.0 → P c → P (client_at Joining c)
-    each_joins c same p = joins (schema_of live) s.last.rows (rows_of live) c (ap (λ (x : Session). is_connected x.stage) same ∙ found.2) p
-
--- a client is acknowledged
-pub stands_acknowledged : (live : State-now) (shared : View) (cs : List Client) (id : List ℕ) → Stands live shared cs → Stands live shared (change_client id (λ (c : Client). client_at (acknowledged_stage c.stage) c) cs)
-stands_acknowledged live shared cs id s = record {
-  last = s.last;
-  kept = s.kept;
-  spelled = s.spelled;
-  later = s.later;
-  shared_stands = s.shared_stands;
-  each = all_changed P id acknowledge cs (all_each (λ (c : Client). bytes_eq c.id id ≡ true → P c → P (acknowledge c)) each cs) s.each;
-}
-  where
-    acknowledge : Client → Client
-    acknowledge c = client_at (acknowledged_stage c.stage) c
-
-    P : Client → Type 0
-    P c = ClientStands (schema_of live) s.last.rows (rows_of live) c
-
-    each : (c : Client) → bytes_eq c.id id ≡ true → P c → P (acknowledge c)
-    each c named p = record { view_stands = acknowledges (schema_of live) s.last.rows (rows_of live) c.stage c p.view_stands; pairs = p.pairs }
+  -- one whose seat is kept
+  pub drops : (c : Client) → ClientStands schema last rows c → ClientStands schema last rows (dropped_client schema c)
+  drops c s = record { view_stands = refl; pairs = s.pairs }
 
 -- ---- a command
 
@@ -135,16 +117,8 @@ edited_stands Due schema last c d same view v = ap (λ (x : View). x.is_new) vie
 edited_stands Kept schema last c d same view v = ap (λ (x : View). x.is_new) view ∙ v
 edited_stands Live schema last c d same view v = ap (λ (x : View). x.after) view ∙ (v ∙ sym (ap (λ ps. permitted schema last ps) same))
 
-pub stands_edited : (live : State-now) (shared : View) (cs : List Client) (at : ℕ) (c d : Client) → Edited c d → are_there (rows_of live) d.members.now ≡ true
-    → ((last : List RowEntry) → All (ClientStands (schema_of live) last (rows_of live)) cs → ClientStands (schema_of live) last (rows_of live) c) → Stands live shared cs → Stands live shared (set cs at d)
-stands_edited live shared cs at c d e pairs was s = record {
-  last = s.last;
-  kept = s.kept;
-  spelled = s.spelled;
-  later = s.later;
-  shared_stands = s.shared_stands;
-  each = All-set (ClientStands (schema_of live) s.last.rows (rows_of live)) cs at d (record {
-    view_stands = subst (λ (x : Stage). ViewStands x (schema_of live) s.last.rows d.members d.view) (sym e.stage) (edited_stands c.stage (schema_of live) s.last.rows c d e.last e.view (was s.last.rows s.each).view_stands);
-    pairs = pairs;
-  }) s.each;
+pub edits : (schema : Schema) (last rows : List RowEntry) (c d : Client) → Edited c d → are_there rows d.members.now ≡ true → ClientStands schema last rows c → ClientStands schema last rows d
+edits schema last rows c d e pairs was = record {
+  view_stands = subst (λ (x : Stage). ViewStands x schema last d.members d.view) (sym e.stage) (edited_stands c.stage schema last c d e.last e.view was.view_stands);
+  pairs = pairs;
 }

@@ -1,6 +1,7 @@
 -- Clients whose tick is done, one after another.
 use Rattle.std.proofs.Common.{◌≡◌, ℕ, zero, suc, ◌+◌, ◌<◌, List, [], ◌∷◌, ◌++◌, All, Option, map, take, drop, set, length, get_or, sym, ap, ◌∙◌, arith}
 use Rattle.std.specs.Prelude.{◌≤◌}
+use Rattle.std.proofs.Math.Seq.{take-append_seam}
 use Rattle.std.specs.List.{flat_map, sum_by}
 use Rattle.std.proofs.lemmas.List.{take_more, take_more_set, drop_more, drop-set-lt, map-append, flat_map_more}
 use Rattle.std.proofs.lemmas.List.Sums.{sum_by-cons, sum_by_more}
@@ -26,6 +27,10 @@ module _ {X : Type 0} (xs first : List X) (n : ℕ) (d : X) (long : length xs �
 
   pub rest_same : (y : X) → drop (n + 1) (set xs n y) ≡ drop (n + 1) first
   rest_same y = drop-set-lt (n + 1) xs n y (omega arith) ∙ (let h = seam in cc)
+
+-- what a loop leaves that ends early: all of what it has changed
+pub written_back : {X : Type 0} (n : ℕ) (ys xs : List X) → n ≡ length ys → take n (ys ++ drop (length ys) xs) ≡ ys
+written_back n ys xs all = ap (λ k. take k (ys ++ drop (length ys) xs)) all ∙ take-append_seam ys (drop (length ys) xs)
 
 module _ (live : State-now) (shared : View) where
   -- what a client is sent

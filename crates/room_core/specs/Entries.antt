@@ -1,5 +1,5 @@
--- What a call of a room's places does, and what an opening makes of them and gives.
-use Rattle.std.specs.Prelude.{◌≡◌, ℕ, List, [], ◌∷◌, Option, Some, None, Result, Ok, Err, if◌then◌else◌}
+-- What an opening makes of a room's places, and what it gives.
+use Rattle.std.specs.Prelude.{ℕ, List, [], ◌∷◌, Option, Some, None, Result, Err, if◌then◌else◌}
 use Rattle.room_model.specs.declared.event.RoomOut.{RoomOut}
 use Rattle.room_model.specs.declared.event.RoomOut.TheVariants as out
 use Rattle.room_model.specs.declared.seat.SeatFault.{SeatFault}
@@ -7,13 +7,6 @@ use Rattle.room_model.specs.declared.seat.SeatFault.TheVariants.{Locked, Full, N
 use Rattle.room_model.specs.Seats.{Seats, has_reservation}
 use Rattle.room_model.specs.Ledger.{take_seat, retake}
 use Rattle.room_model.specs.Room.{join_frame}
-
--- an accepted call makes of the places what it is said to make; a refused one answers its cause, and changes nothing
-abbrev pub Does : Result Seats SeatFault → Seats → Seats → Result (Unit {0}) SeatFault → Type 0
-Does (Ok after) old new (Ok done) = new ≡ after
-Does (Ok after) old new (Err g) = ⊥
-Does (Err f) old new (Ok done) = ⊥
-Does (Err f) old new (Err g) = (g ≡ f) × (new ≡ old)
 
 -- a reservation is taken, else a kept seat by its token
 abbrev pub returned : Seats → List ℕ → Option (List ℕ) → List ℕ → Result Seats SeatFault

@@ -1,5 +1,7 @@
 pub mod Entries
 pub mod Values
+pub mod Clients
+pub mod Leaving
 pub mod Stands
 pub mod Steps
 pub mod Ticks

@@ -1,5 +1,5 @@
 -- Rooms between two ticks: what each client's view stems from, so that its next frame leads on from it.
-use Rattle.std.specs.Prelude.{◌≡◌, true, List, [], All}
+use Rattle.std.specs.Prelude.{◌≡◌, ◌≤◌, true, List, [], All}
 use Rattle.schema_model.specs.Classes.{Schema}
 use Rattle.state_model.specs.declared.row.RowEntry.{RowEntry}
 use Rattle.state_model.specs.Members.{Members, no_members}
@@ -10,6 +10,7 @@ use Rattle.wire_model.specs.declared.op.Block.{Block}
 use Rattle.wire_model.specs.Frame.{patch}
 use Rattle.command_laws.specs.Kept.{IsKept}
 use Rattle.command_laws.specs.Later.{IsLater}
+use Rattle.room_model.specs.Limits.{longest_time}
 use Rattle.room_model.specs.declared.event.Stage.{Stage}
 use Rattle.room_model.specs.declared.event.Stage.TheVariants.{Reserved, Joining, Due, Live, Kept}
 use Rattle.live_state.specs.Live.{Live as State-now, schema_of, rows_of}
@@ -41,9 +42,9 @@ pub record Stands (live : State-now) (shared : View) (clients : List Client) : T
   pub shared_stands : view_now shared ≡ permitted (schema_of live) last.rows []
   pub each : All (ClientStands (schema_of live) last.rows (rows_of live)) clients
 
--- so it is of a room
+-- so it is of a room, whose seats are kept for an hour at most
 abbrev pub RoomStands : Parts → Type 0
-RoomStands p = Stands p.live p.shared p.clients.items × (p.none ≡ no_members)
+RoomStands p = Stands p.live p.shared p.clients.items × (p.none ≡ no_members) × (p.def.keep ≤ longest_time)
 
 -- the shared view is settled at this tick, and the blocks are the shared part of it
 pub record HasBegun (live : State-now) (shared : View) (part : List Block) : Type 0 where

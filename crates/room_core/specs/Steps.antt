@@ -1,6 +1,5 @@
 -- What events make of the parts of a room.
-use Rattle.std.specs.Prelude.{◌≡◌, ℕ, List, [], ◌∷◌, map, Option, Some, None, Result, Ok, Err, IfOk, IsErr, if◌then◌else◌}
-use Rattle.std.specs.Str.{bytes_eq}
+use Rattle.std.specs.Prelude.{◌≡◌, ℕ, List, [], ◌∷◌, Option, Some, None, Result, Ok, Err, IfOk, IsErr}
 use Rattle.schema_model.specs.Classes.{Schema}
 use Rattle.schema_model.specs.declared.place.Pair.{Pair}
 use Rattle.state_model.specs.declared.row.RowEntry.{RowEntry}
@@ -15,21 +14,24 @@ use Rattle.room_model.specs.Room.{made_outs}
 use Rattle.lists.specs.declared.memory.Memory.{Memory}
 use Rattle.state_model.specs.declared.command.TableFault.{TableFault}
 use Rattle.state_model.specs.declared.command.TableFault.TheVariants as table
+use Rattle.view_counts.specs.Settled.{View, new_view}
 use Rattle.view_edits.specs.declared.fault.EditFault.{EditFault}
 use Rattle.view_edits.specs.declared.fault.EditFault.TheVariants as fault
 use Rattle.room_core.specs.declared.client.Client.{Client}
-use Rattle.room_core.specs.declared.parts.Parts.{Parts}
 use Rattle.room_core.specs.declared.view_edit.ViewEdit.{ViewEdit}
 use Rattle.room_core.specs.declared.view_edit.ViewEdit.TheVariants.{Show, Hide}
 use Rattle.room_core.specs.Values.{session_of_client}
 
--- the clients, each changed where it is this one
-abbrev pub change_client : List ℕ → (Client → Client) → List Client → List Client
-change_client id change cs = map (λ (c : Client). if bytes_eq c.id id then change c else c) cs
-
 -- a client at another stage
 abbrev pub client_at : Stage → Client → Client
 client_at stage c = record { id = c.id; stage = stage; members = c.members; view = c.view; keep = c.keep }
+
+-- a client whose seat is kept: only its members and its keep time stay
+abbrev pub client_seen : View → Client → Client
+client_seen view c = record { id = c.id; stage = Kept; members = c.members; view = view; keep = c.keep }
+
+abbrev pub dropped_client : Schema → Client → Client
+dropped_client schema c = client_seen (new_view schema) c
 
 -- an acknowledged stage
 abbrev pub acknowledged_stage : Stage → Stage
@@ -38,10 +40,6 @@ acknowledged_stage Reserved = Reserved
 acknowledged_stage Due = Due
 acknowledged_stage Live = Live
 acknowledged_stage Kept = Kept
-
--- the places are as they were
-abbrev pub SamePlaces : Parts → Parts → Type 0
-SamePlaces old new = new.places ≡ old.places
 
 -- what a fault of a command gives: want of memory nothing, any other its refusal
 pub record FaultTells (f : TableFault) (r : Result (List RoomOut) Memory) : Type 0 where

@@ -5,12 +5,12 @@ use view_counts::ViewCounts;
 use view_members::Members;
 
 /// A client: its session, how far it is, the members of its view, the view that it saw at the last tick, and for how
-/// many ms its seat is kept.
+/// many ms its seat is kept, an hour at most.
 #[derive(Drop)]
 pub struct Client {
     pub id: Id,
     pub stage: Stage,
     pub members: Members,
     pub view: ViewCounts,
-    pub keep: u64,
+    pub keep: u32,
 }

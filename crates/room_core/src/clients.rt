@@ -1,36 +1,47 @@
 //! Clients, found by their sessions.
 ghost use Rattle.std.specs.Prelude.{◌≡◌, is_some, map};
-ghost use Rattle.std.specs.List.{position};
-ghost use Rattle.std.specs.Str.{bytes_eq};
-ghost use Rattle.room_model.specs.Sessions.{session_of};
-ghost use Rattle.room_laws.specs.Placed.{stage_of};
-ghost use Rattle.room_core.specs.Values.{session_of_client};
-ghost use Rattle.room_core.specs.declared.client.Client.{Client as Seen};
+ghost use Rattle.room_model.specs.Sessions.{is_connected, session_of};
+ghost use Rattle.room_laws.specs.Placed.{Placed, stage_of};
+ghost use Rattle.room_core.specs.Clients.{IsClientAt};
+ghost use Rattle.room_core.specs.Values.{room_of, session_of_client};
 
-use crate::client::Client;
+use crate::parts::Parts;
 use room_model::Stage;
 use schema_model::Id;
 
-/// Where the client of a session stands.
-pub fn place_of(clients: &[Client], session: Id) -> Option<usize>
-    ensures { result ≡ position (λ (c : Seen). bytes_eq c.id session) clients.now }
-{
-    clients.iter().position(|client| client.id == session)
-}
-
-/// Whether there is a client of a session.
-pub fn is_there(clients: &[Client], session: Id) -> bool
-    ensures { result ≡ is_some (session_of (map session_of_client clients.now) session) }
-{
-    place_of(clients, session).is_some()
-}
-
-/// How far a session is.
-pub fn stage_of(clients: &[Client], session: Id) -> Option<Stage>
-    ensures { result ≡ stage_of (map session_of_client clients.now) session }
-{
-    match place_of(clients, session) {
-        Some(at) => Some(clients[at].stage),
-        None => None,
+impl Parts {
+    /// Where the client of a session stands. Clients stand in the order of the places, which are found without a scan.
+    pub fn place_of(&self, session: Id) -> Option<usize>
+        requires placed { Placed (room_of self.now) }
+        ensures { IsClientAt session self.now.clients.items result }
+    {
+        let at = self.places.place_of(session)?;
+        Some(at as usize)
     }
+
+    /// Whether there is a client of a session.
+    pub fn has_session(&self, session: Id) -> bool
+        requires placed { Placed (room_of self.now) }
+        ensures { result ≡ is_some (session_of (map session_of_client self.now.clients.items) session) }
+    {
+        self.place_of(session).is_some()
+    }
+
+    /// How far a session is.
+    pub fn stage_of(&self, session: Id) -> Option<Stage>
+        requires placed { Placed (room_of self.now) }
+        ensures { result ≡ stage_of (map session_of_client self.now.clients.items) session }
+    {
+        match self.place_of(session) {
+            Some(at) => Some(self.clients[at].stage),
+            None => None,
+        }
+    }
+}
+
+/// A session at this stage has a connection.
+pub fn has_connection(stage: Stage) -> bool
+    ensures { result ≡ is_connected stage }
+{
+    matches!(stage, Stage::Joining | Stage::Due | Stage::Live)
 }

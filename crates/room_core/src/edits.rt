@@ -1,19 +1,21 @@
-//! What a room's owner does: commands and view edits.
-ghost use Rattle.std.specs.Prelude.{◌≡◌, ◌+◌, ◌≤◌, true, IfOk, OnErr, OnOk};
+//! What a room's owner does: commands, view edits, keep times, the lock.
+ghost use Rattle.std.specs.Prelude.{◌≡◌, ◌+◌, ◌≤◌, [], true, IfOk, OnErr, OnOk};
 ghost use Rattle.state_model.specs.Commands.{do_command};
 ghost use Rattle.instance_table.specs.Behind.{places_behind};
-ghost use Rattle.room_model.specs.Room.{after_answer, made_outs, on_session};
-ghost use Rattle.room_model.specs.Sessions.{view_added_to, view_removed_from};
-ghost use Rattle.room_laws.specs.Placed.{Placed};
+ghost use Rattle.room_model.specs.Ledger.{set_locked};
+ghost use Rattle.room_model.specs.Limits.{longest_time};
+ghost use Rattle.room_model.specs.Room.{after_answer, made_outs, on_session, with_seats};
+ghost use Rattle.room_model.specs.Sessions.{keep_set, view_added_to, view_removed_from};
+ghost use Rattle.room_laws.specs.Ordered.{Ordered};
 ghost use Rattle.live_state.specs.Live.{rows_of, schema_of};
 ghost use Rattle.view_edits.specs.There.{are_there};
+ghost use Rattle.room_core.specs.Clients.{client_tells};
 ghost use Rattle.room_core.specs.Costs.{edit_cost};
 ghost use Rattle.room_core.specs.Stands.{RoomStands};
-ghost use Rattle.room_core.specs.Steps.{AnswerTells, Edited, EditTells, FaultTells, refused_outs, Refuses, SamePlaces, view_edited};
+ghost use Rattle.room_core.specs.Steps.{AnswerTells, Edited, EditTells, FaultTells, refused_outs, Refuses, view_edited};
 ghost use Rattle.room_core.specs.Values.{room_of, session_of_client};
 
 use crate::client::Client;
-use crate::clients::place_of;
 use crate::entering::one_out;
 use crate::parts::Parts;
 use crate::view_edit::ViewEdit;
@@ -31,10 +33,11 @@ impl Parts {
     /// A command.
     pub fn command(&mut self, command: &Command) -> Result<RoomOuts, Memory>
         requires stands { RoomStands self.old }
+        requires order { Ordered (room_of self.old) }
         ensures outs { IfOk result (λ outs. outs ≡ (after_answer (room_of self.old) (do_command (schema_of self.old.live) self.old.live.table.state command.now)).1) }
         ensures room { OnOk result (room_of self.new ≡ (after_answer (room_of self.old) (do_command (schema_of self.old.live) self.old.live.table.state command.now)).0) }
         ensures stands { OnOk result (RoomStands self.new) }
-        ensures places { OnErr result (SamePlaces self.old self.new) }
+        ensures order { OnErr result (Ordered (room_of self.new)) }
     {
         let alloc = self.alloc;
         // The rows so far are sound.
@@ -52,19 +55,48 @@ impl Parts {
         steps: &mut Steps<L>,
     ) -> Result<RoomOuts, Memory>
         requires stands { RoomStands self.old }
-        requires placed { Placed (room_of self.old) }
+        requires order { Ordered (room_of self.old) }
         ensures outs { IfOk result (λ outs. outs ≡ (on_session (room_of self.old) session (view_edited edit (schema_of self.old.live) (rows_of self.old.live) pair)).1) }
         ensures room { OnOk result (room_of self.new ≡ (on_session (room_of self.old) session (view_edited edit (schema_of self.old.live) (rows_of self.old.live) pair)).0) }
         ensures stands { OnOk result (RoomStands self.new) }
-        ensures places { OnErr result (SamePlaces self.old self.new) }
+        ensures order { OnErr result (Ordered (room_of self.new)) }
         ensures cost { steps.new ≤ steps.old + edit_cost (room_of self.old) pair }
     {
         let alloc = self.alloc;
-        let Some(at) = place_of(self.clients.as_slice(), session) else {
+        let Some(at) = self.place_of(session) else {
             return refused(alloc, Some(Refusal::NoSession));
         };
         let refusal = edit_one(&self.live, &mut self.clients[at], edit, pair, steps)?;
         refused(alloc, refusal)
+    }
+
+    /// The seat of a session is kept for so many ms at its next drop.
+    pub fn set_keep(&mut self, session: Id, ms: u64) -> Result<RoomOuts, Memory>
+        requires stands { RoomStands self.old }
+        requires order { Ordered (room_of self.old) }
+        requires within { ms ≤ longest_time }
+        ensures outs { IfOk result (λ outs. outs ≡ (on_session (room_of self.old) session (keep_set ms)).1) }
+        ensures room { OnOk result (room_of self.new ≡ (on_session (room_of self.old) session (keep_set ms)).0) }
+        ensures stands { OnOk result (RoomStands self.new) }
+        ensures order { OnErr result (Ordered (room_of self.new)) }
+    {
+        let alloc = self.alloc;
+        let Some(at) = self.place_of(session) else {
+            return refused(alloc, Some(Refusal::NoSession));
+        };
+        let refusal = keep_one(&mut self.clients[at], ms as u32);
+        refused(alloc, refusal)
+    }
+
+    /// An act locks the room, or opens it again.
+    pub fn lock(&mut self, on: bool) -> RoomOuts
+        requires stands { RoomStands self.old }
+        ensures outs { result ≡ [] }
+        ensures room { room_of self.new ≡ with_seats (room_of self.old) (set_locked self.old.places on) }
+        ensures stands { RoomStands self.new }
+    {
+        self.places.set_locked(on);
+        Seq::new(self.alloc)
     }
 }
 
@@ -98,8 +130,8 @@ fn refused_by(alloc: Global, fault: TableFault) -> Result<RoomOuts, Memory>
     }
 }
 
-// The refusal of an act, where there is one.
-fn refused(alloc: Global, refusal: Option<Refusal>) -> Result<RoomOuts, Memory>
+/// The refusal of an act, where there is one.
+pub fn refused(alloc: Global, refusal: Option<Refusal>) -> Result<RoomOuts, Memory>
     ensures { IfOk result (λ outs. outs ≡ refused_outs refusal) }
 {
     match refusal {
@@ -119,6 +151,7 @@ fn edit_one<L: Ledger>(
     requires { are_there (rows_of live.now) client.old.members.now ≡ true }
     ensures tells { IfOk result (EditTells (view_edited edit (schema_of live.now) (rows_of live.now) pair (session_of_client client.old)) client.old client.new) }
     ensures edited { OnOk result (Edited client.old client.new) }
+    ensures told { client_tells client.new ≡ client_tells client.old }
     ensures there { OnOk result (are_there (rows_of live.now) client.new.members.now ≡ true) }
     ensures cost { steps.new ≤ steps.old + places_behind (schema_of live.now) (rows_of live.now) pair.who pair.tag }
 {
@@ -138,6 +171,7 @@ fn show_to<L: Ledger>(
     requires { are_there (rows_of live.now) client.old.members.now ≡ true }
     ensures tells { IfOk result (EditTells (view_added_to (schema_of live.now) (rows_of live.now) pair (session_of_client client.old)) client.old client.new) }
     ensures edited { OnOk result (Edited client.old client.new) }
+    ensures told { client_tells client.new ≡ client_tells client.old }
     ensures there { OnOk result (are_there (rows_of live.now) client.new.members.now ≡ true) }
     ensures cost { steps.new ≤ steps.old + places_behind (schema_of live.now) (rows_of live.now) pair.who pair.tag }
 {
@@ -157,6 +191,7 @@ fn hide_from<L: Ledger>(
     requires { are_there (rows_of live.now) client.old.members.now ≡ true }
     ensures tells { IfOk result (EditTells (view_removed_from (schema_of live.now) (rows_of live.now) pair (session_of_client client.old)) client.old client.new) }
     ensures edited { OnOk result (Edited client.old client.new) }
+    ensures told { client_tells client.new ≡ client_tells client.old }
     ensures there { OnOk result (are_there (rows_of live.now) client.new.members.now ≡ true) }
     ensures cost { steps.new ≤ steps.old + places_behind (schema_of live.now) (rows_of live.now) pair.who pair.tag }
 {
@@ -176,4 +211,17 @@ fn refusal_of(answer: Result<(), EditFault>) -> Result<Option<Refusal>, Memory>
         Err(EditFault::ViewFull) => Ok(Some(Refusal::ViewFull)),
         Err(EditFault::Memory) => Err(Memory),
     }
+}
+
+// The seat of a client is kept for so many ms, or that is refused.
+fn keep_one(client: &mut Client, ms: u32) -> Option<Refusal>
+    ensures tells { EditTells (keep_set ms (session_of_client client.old)) client.old client.new result }
+    ensures edited { Edited client.old client.new }
+    ensures members { client.new.members ≡ client.old.members }
+{
+    if client.stage == Stage::Reserved {
+        return Some(Refusal::NotHere);
+    }
+    client.keep = ms;
+    None
 }

@@ -1,60 +1,63 @@
-//! How clients come into a room: reservations, openings, acknowledgements.
+//! How clients come into a room: reservations and openings.
 ghost use Rattle.std.specs.Prelude.{◌≡◌, [], ◌∷◌, IfOk, IsTrue, OnErr, OnOk};
-ghost use Rattle.room_model.specs.Room.{after_reserve, after_enter, after_frame};
-ghost use Rattle.room_laws.specs.Placed.{Placed};
-ghost use Rattle.room_laws.specs.Places.{is_connected_in};
-ghost use Rattle.room_like.specs.Taken.{is_acknowledgement};
+ghost use Rattle.room_model.specs.Room.{after_enter, after_reserve};
+ghost use Rattle.room_laws.specs.Ordered.{Ordered};
+ghost use Rattle.room_laws.specs.Places.{has_place_for};
 ghost use Rattle.room_model.specs.Seats.{has_reservation};
-ghost use Rattle.room_core.specs.Entries.{Does, entered, opening_outs, refused_opening};
+ghost use Rattle.seat_ledger.specs.Calls.{Does};
+ghost use Rattle.room_core.specs.Entries.{entered, opening_outs, refused_opening};
 ghost use Rattle.room_core.specs.Stands.{RoomStands};
-ghost use Rattle.room_core.specs.Steps.{acknowledged_stage, change_client, client_at, SamePlaces};
 ghost use Rattle.room_core.specs.Values.{room_of};
-ghost use Rattle.room_core.specs.declared.client.Client.{Client as Seen};
 
 use crate::client::Client;
 use crate::frames::join_frame;
 use crate::parts::Parts;
-use crate::places::Places;
 use lists::Seq;
 use room_model::{RoomOut, RoomOuts, Seat, SeatFault, Stage};
-use schema_model::{Bytes, Id, Memory};
+use schema_model::{Id, Memory};
+use seat_ledger::SeatLedger;
 use std::alloc::Global;
 use view_counts::ViewCounts;
 use view_members::Members;
 
 impl Parts {
-    /// A reservation.
+    /// A reservation, of a session that there is a place for.
     pub fn reserve(&mut self, session: Id, lapse: u64) -> Result<(), Memory>
         requires stands { RoomStands self.old }
+        requires order { Ordered (room_of self.old) }
+        requires place { IsTrue (has_place_for (room_of self.old) session) }
         ensures room { OnOk result (room_of self.new ≡ after_reserve (room_of self.old) session lapse) }
         ensures stands { OnOk result (RoomStands self.new) }
-        ensures places { OnErr result (SamePlaces self.old self.new) }
+        ensures order { OnErr result (Ordered (room_of self.new)) }
     {
         let client = Client {
             id: session,
             stage: Stage::Reserved,
             members: Members::new(self.alloc)?,
             view: ViewCounts::new(self.alloc, self.live.schema())?,
-            keep: self.def.keep,
+            keep: self.def.keep as u32,
         };
         self.clients.push(client)?;
-        self.places.reserve(session, lapse)?;
+        self.places.reserve(session, lapse).unwrap();
         Ok(())
     }
 
     /// An opening: the session's reservation becomes a seat with a fresh token, or its kept seat does, by its own token.
     pub fn enter(&mut self, session: Id, token: Option<Id>, fresh: Id) -> Result<RoomOuts, Memory>
         requires stands { RoomStands self.old }
-        requires placed { Placed (room_of self.old) }
+        requires order { Ordered (room_of self.old) }
         ensures outs { IfOk result (λ outs. outs ≡ (after_enter (room_of self.old) session token fresh).1) }
         ensures room { OnOk result (room_of self.new ≡ (after_enter (room_of self.old) session token fresh).0) }
         ensures stands { OnOk result (RoomStands self.new) }
-        ensures places { OnErr result (SamePlaces self.old self.new) }
+        ensures order { OnErr result (Ordered (room_of self.new)) }
     {
+        let Some(at) = self.place_of(session) else {
+            return one_out(self.alloc, RoomOut::NoSeat(session));
+        };
         let told = self.told_opening(session, fresh)?;
         match take_place(&mut self.places, session, token, fresh) {
             Ok(()) => {
-                join(&mut self.clients, session);
+                self.clients[at].stage = Stage::Joining;
                 Ok(told)
             }
             Err(fault) => one_out(self.alloc, refused_opening(session, fault)),
@@ -74,22 +77,10 @@ impl Parts {
         outs.push(RoomOut::Send(session, join_frame(self.alloc, fresh)?))?;
         Ok(outs)
     }
-
-    /// A frame of a connected session: its acknowledgement.
-    pub fn acknowledge(&mut self, session: Id, _bytes: &Bytes)
-        requires stands { RoomStands self.old }
-        requires bytes { IsTrue (is_acknowledgement _bytes.now) }
-        requires connected { IsTrue (is_connected_in (room_of self.old) session) }
-        ensures outs { (after_frame (room_of self.old) session _bytes.now).1 ≡ [] }
-        ensures room { room_of self.new ≡ (after_frame (room_of self.old) session _bytes.now).0 }
-        ensures stands { RoomStands self.new }
-    {
-        acknowledge(&mut self.clients, session);
-    }
 }
 
 // Whether a session has a reservation.
-fn has_reservation(places: &Places, session: Id) -> bool
+fn has_reservation(places: &SeatLedger, session: Id) -> bool
     ensures { result ≡ has_reservation places.now session }
 {
     matches!(places.seat_of(session), Some(Seat::Reserved(_)))
@@ -97,7 +88,7 @@ fn has_reservation(places: &Places, session: Id) -> bool
 
 // A session's reservation becomes a seat with a fresh token, or else its kept seat does, by its token.
 fn take_place(
-    places: &mut Places,
+    places: &mut SeatLedger,
     session: Id,
     token: Option<Id>,
     fresh: Id,
@@ -132,36 +123,4 @@ pub fn one_out(alloc: Global, out: RoomOut) -> Result<RoomOuts, Memory>
     let mut outs = Seq::new(alloc);
     outs.push(out)?;
     Ok(outs)
-}
-
-// The client of a session is joining.
-fn join(clients: &mut Vec<Client>, session: Id)
-    ensures { clients.new.items ≡ change_client session (client_at Stage.Joining) clients.old.items }
-{
-    for client in clients.iter_mut() {
-        if client.id == session {
-            client.stage = Stage::Joining;
-        }
-    }
-}
-
-// The client of a session is acknowledged.
-fn acknowledge(clients: &mut Vec<Client>, session: Id)
-    ensures { clients.new.items ≡ change_client session (λ (c : Seen). client_at (acknowledged_stage c.stage) c) clients.old.items }
-{
-    for client in clients.iter_mut() {
-        if client.id == session {
-            client.stage = acknowledged(client.stage);
-        }
-    }
-}
-
-// An acknowledged client's full state is due; at other stages it changes nothing.
-fn acknowledged(stage: Stage) -> Stage
-    ensures { result ≡ acknowledged_stage stage }
-{
-    match stage {
-        Stage::Joining => Stage::Due,
-        other => other,
-    }
 }

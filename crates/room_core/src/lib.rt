@@ -1,4 +1,4 @@
-//! A room: any number of clients that join, are acknowledged, and see its state from tick to tick.
+//! A room: any number of clients that join, are acknowledged, see its state from tick to tick, drop and come back, and go.
 #![tactic(auto)]
 
 mod client;
@@ -6,9 +6,10 @@ mod clients;
 mod edits;
 mod entering;
 mod frames;
+mod leaving;
 mod parts;
-mod places;
 mod room;
+mod takes;
 mod ticks;
 mod view_edit;
 

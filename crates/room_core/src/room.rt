@@ -1,25 +1,25 @@
 //! A room.
 ghost use Rattle.std.specs.Prelude.{◌≡◌, ◌+◌, ◌≤◌, ◌&&◌, IfOk, IsTrue, OnErr, OnOk};
 ghost use Rattle.room_model.specs.Room.{after_act, room_step};
-ghost use Rattle.room_model.specs.Sessions.{is_connected};
-ghost use Rattle.room_laws.specs.Placed.{Placed, stage_of};
-ghost use Rattle.room_laws.specs.Places.{is_connected_in, may_happen};
-ghost use Rattle.room_like.specs.Taken.{is_acknowledgement, is_taken, is_taken_act};
+ghost use Rattle.room_laws.specs.Ordered.{Ordered};
+ghost use Rattle.room_laws.specs.Placed.{stage_of};
+ghost use Rattle.room_laws.specs.Places.{is_connected_in, may_act, may_happen};
+ghost use Rattle.room_like.specs.Taken.{is_taken, is_taken_act};
 ghost use Rattle.live_state.specs.Live.{schema_of};
 ghost use Rattle.room_core.specs.Costs.{act_cost, step_cost};
 ghost use Rattle.room_core.specs.Stands.{RoomStands};
-ghost use Rattle.room_core.specs.Steps.{SamePlaces};
 ghost use Rattle.room_core.specs.Values.{room_of};
 
-use crate::clients::{is_there, stage_of};
+use crate::clients::has_connection;
 use crate::parts::Parts;
-use crate::places::Places;
+use crate::takes::{is_moment, is_taken_act, is_taken_frame, may_act};
 use crate::view_edit::ViewEdit;
 use lists::Seq;
 use live_state::LiveState;
 use room_like::{RoomLike, know_event, may_reserve};
 use room_model::{Act, RoomDef, RoomEvent, RoomOuts, Stage, Texts, copy_texts};
 use schema_model::{Id, Memory, Schema};
+use seat_ledger::SeatLedger;
 use std::alloc::Global;
 use std::marker::Model;
 use std::sync::ledger::Ledger;
@@ -58,7 +58,7 @@ impl Room {
     pub fn stage_of(&self, session: Id) -> Option<Stage>
         ensures { result ≡ stage_of self.now.room.sessions session }
     {
-        stage_of(self.parts.clients.as_slice(), session)
+        self.parts.stage_of(session)
     }
 
     /// Whether `step` takes an event now.
@@ -66,13 +66,14 @@ impl Room {
         ensures { result ≡ (may_happen self.now.room event.now && is_taken event.now) }
     {
         match event {
-            RoomEvent::Reserve(session, _) => may_reserve(self, *session),
+            RoomEvent::Reserve(session, lapse) => is_moment(*lapse) && may_reserve(self, *session),
             RoomEvent::Enter(_, _, _) | RoomEvent::Tick => true,
             RoomEvent::Frame(session, bytes) => {
-                self.is_connected(*session) && is_acknowledgement(bytes.as_slice())
+                self.is_connected(*session) && is_taken_frame(bytes.as_slice())
             }
-            RoomEvent::Act(act) => is_taken_act(act),
-            RoomEvent::Lost(_, _) | RoomEvent::Moment(_) => false,
+            RoomEvent::Lost(session, now) => is_moment(*now) && self.is_connected(*session),
+            RoomEvent::Moment(now) => is_moment(*now),
+            RoomEvent::Act(act) => may_act(act) && is_taken_act(act),
         }
     }
 
@@ -85,25 +86,6 @@ impl Room {
             None => false,
         }
     }
-}
-
-// A session at this stage has a connection.
-fn has_connection(stage: Stage) -> bool
-    ensures { result ≡ is_connected stage }
-{
-    matches!(stage, Stage::Joining | Stage::Due | Stage::Live)
-}
-
-fn is_acknowledgement(bytes: &[u8]) -> bool
-    ensures { result ≡ is_acknowledgement bytes.now }
-{
-    bytes == [10].as_slice()
-}
-
-fn is_taken_act(act: &Act) -> bool
-    ensures { result ≡ is_taken_act act.now }
-{
-    matches!(act, Act::State(_) | Act::ViewAdd(_, _) | Act::ViewDel(_, _))
 }
 
 impl RoomLike for Room {
@@ -148,7 +130,7 @@ impl RoomLike for Room {
             none: Members::new(alloc)?,
             shared: ViewCounts::new(alloc, schema)?,
             live: LiveState::new(alloc, schema.copy(alloc)?)?,
-            places: Places::new(alloc, def.max),
+            places: SeatLedger::new(alloc, def.max)?,
             clients: Vec::new(alloc),
         };
         parts.live.know_rows();
@@ -171,11 +153,11 @@ impl RoomLike for Room {
     }
 
     fn locked(&self) -> bool {
-        self.parts.is_locked()
+        self.parts.places.locked()
     }
 
     fn in_use(&self) -> u32 {
-        self.parts.places.count()
+        self.parts.places.in_use()
     }
 
     fn max(&self) -> u32 {
@@ -183,28 +165,28 @@ impl RoomLike for Room {
     }
 
     fn has_session(&self, session: Id) -> bool {
-        is_there(self.parts.clients.as_slice(), session)
+        self.parts.has_session(session)
     }
 
     fn kept_by(&self, token: Id) -> Option<Id> {
-        self.parts.kept_by(token)
+        self.parts.places.kept_by(token)
     }
 }
 
-// The step of a room. What an `Err` leaves is used no more.
+// The step of a room. What an `Err` leaves is in order, and no step is made from it.
 fn happen<L: Ledger>(
     parts: &mut Parts,
     event: &RoomEvent,
     steps: &mut Steps<L>,
 ) -> Result<RoomOuts, Memory>
     requires stands { RoomStands parts.old }
-    requires placed { Placed (room_of parts.old) }
+    requires order { Ordered (room_of parts.old) }
     requires happen { IsTrue (may_happen (room_of parts.old) event.now) }
     requires takes { IsTrue (is_taken event.now) }
     ensures outs { IfOk result (λ outs. outs ≡ (room_step (room_of parts.old) event.now).1) }
     ensures room { OnOk result (room_of parts.new ≡ (room_step (room_of parts.old) event.now).0) }
     ensures stands { OnOk result (RoomStands parts.new) }
-    ensures places { OnErr result (SamePlaces parts.old parts.new) }
+    ensures order { OnErr result (Ordered (room_of parts.new)) }
     ensures cost { steps.new ≤ steps.old + step_cost (room_of parts.old) event.now }
 {
     match event {
@@ -213,13 +195,11 @@ fn happen<L: Ledger>(
             Ok(Seq::new(parts.alloc))
         }
         RoomEvent::Enter(session, token, fresh) => parts.enter(*session, *token, *fresh),
-        RoomEvent::Frame(session, bytes) => {
-            parts.acknowledge(*session, bytes);
-            Ok(Seq::new(parts.alloc))
-        }
+        RoomEvent::Frame(session, bytes) => parts.frame(*session, bytes),
+        RoomEvent::Lost(session, now) => parts.lose(*session, *now),
+        RoomEvent::Moment(now) => parts.lapse(*now),
         RoomEvent::Act(act) => perform(parts, act, steps),
         RoomEvent::Tick => parts.tick(steps),
-        _ => unreachable!(),
     }
 }
 
@@ -230,18 +210,23 @@ fn perform<L: Ledger>(
     steps: &mut Steps<L>,
 ) -> Result<RoomOuts, Memory>
     requires stands { RoomStands parts.old }
-    requires placed { Placed (room_of parts.old) }
+    requires order { Ordered (room_of parts.old) }
+    requires happen { IsTrue (may_act act.now) }
     requires takes { IsTrue (is_taken_act act.now) }
     ensures outs { IfOk result (λ outs. outs ≡ (after_act (room_of parts.old) act.now).1) }
     ensures room { OnOk result (room_of parts.new ≡ (after_act (room_of parts.old) act.now).0) }
     ensures stands { OnOk result (RoomStands parts.new) }
-    ensures places { OnErr result (SamePlaces parts.old parts.new) }
+    ensures order { OnErr result (Ordered (room_of parts.new)) }
     ensures cost { steps.new ≤ steps.old + act_cost (room_of parts.old) act.now }
 {
     match act {
         Act::State(command) => parts.command(command),
         Act::ViewAdd(session, pair) => parts.edit_view(ViewEdit::Show, *session, *pair, steps),
         Act::ViewDel(session, pair) => parts.edit_view(ViewEdit::Hide, *session, *pair, steps),
-        _ => unreachable!(),
+        Act::Kick(session, code) => parts.kick(*session, *code),
+        Act::Lock => Ok(parts.lock(true)),
+        Act::Unlock => Ok(parts.lock(false)),
+        Act::Keep(session, ms) => parts.set_keep(*session, *ms),
+        Act::Send(_, _, _) | Act::Raw(_, _, _) | Act::ToAll(_, _) => unreachable!(),
     }
 }

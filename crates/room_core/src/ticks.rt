@@ -3,12 +3,13 @@ ghost use Rattle.std.specs.Prelude.{◌≡◌, ◌+◌, ◌≤◌, ◌++◌, tru
 ghost use Rattle.std.specs.List.{flat_map, sum_by};
 ghost use Rattle.instance_table.specs.Table.{TableState};
 ghost use Rattle.room_model.specs.Room.{after_tick, tick_outs};
+ghost use Rattle.room_laws.specs.Ordered.{Ordered};
 ghost use Rattle.live_state.specs.Live.{rows_of, schema_of, swept_table};
 ghost use Rattle.view_counts.specs.Settled.{view_before};
 ghost use Rattle.view_edits.specs.There.{are_there};
+ghost use Rattle.room_core.specs.Clients.{TellTheSame, client_tells};
 ghost use Rattle.room_core.specs.Costs.{session_cost, tick_cost};
 ghost use Rattle.room_core.specs.Stands.{CanSee, CanTick, ClientStands, RoomStands};
-ghost use Rattle.room_core.specs.Steps.{SamePlaces};
 ghost use Rattle.room_core.specs.Ticks.{AllThere, Ticks, client_swept, frame_where, sent_to, ticked_client};
 ghost use Rattle.room_core.specs.Values.{room_of, session_of_client};
 ghost use Rattle.room_core.specs.declared.client.Client.{Client as Seen};
@@ -34,10 +35,11 @@ impl Parts {
     /// made, in the order of reserving.
     pub fn tick<L: Ledger>(&mut self, steps: &mut Steps<L>) -> Result<RoomOuts, Memory>
         requires stands { RoomStands self.old }
+        requires order { Ordered (room_of self.old) }
         ensures outs { IfOk result (λ outs. outs ≡ (after_tick (room_of self.old)).1) }
         ensures room { OnOk result (room_of self.new ≡ (after_tick (room_of self.old)).0) }
         ensures stands { OnOk result (RoomStands self.new) }
-        ensures places { OnErr result (SamePlaces self.old self.new) }
+        ensures order { OnErr result (Ordered (room_of self.new)) }
         ensures cost { steps.new ≤ steps.old + tick_cost (room_of self.old) }
     {
         self.live.know_rows();
@@ -92,6 +94,7 @@ fn tick_all<L: Ledger>(
     ensures outs { IfOk result (λ outs. outs ≡ flat_map (λ (c : Seen). tick_outs (schema_of live.now) (view_before shared.now) (rows_of live.now) (session_of_client c)) clients.old.items) }
     ensures clients { OnOk result (map session_of_client clients.new.items ≡ map (ticked_client (schema_of live.now) (rows_of live.now)) clients.old.items) }
     ensures stand { OnOk result (All (ClientStands (schema_of live.now) (rows_of live.now) (rows_of live.now)) clients.new.items) }
+    ensures told { OnErr result (TellTheSame clients.new.items clients.old.items) }
     ensures cost { steps.new ≤ steps.old + sum_by (λ (c : Seen). session_cost (schema_of live.now) (rows_of live.now) (session_of_client c)) clients.old.items }
 {
     let mut outs = Seq::new(alloc);
@@ -123,6 +126,7 @@ fn tick_one<L: Ledger>(
 ) -> Result<Option<Bytes>, Memory>
     requires { CanSee live.now shared.now part.now client.old }
     ensures ticks { IfOk result (Ticks live.now shared.now client.old client.new) }
+    ensures told { client_tells client.new ≡ client_tells client.old }
     ensures cost { steps.new ≤ steps.old + session_cost (schema_of live.now) (rows_of live.now) (session_of_client client.old) }
 {
     match client.stage {

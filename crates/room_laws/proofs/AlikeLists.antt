@@ -183,3 +183,28 @@ tells_changed id change (s ∷ ss) d keeps stages =
     ] in
     let both = step (bytes_eq s.id id) refl in
     ap₂ (λ x xs. x ∷ xs) both.0 both.1
+
+-- ---- names that differ
+
+-- where no session tells a name none does among those that tell the same
+none_told : (id : List ℕ) (ss ts : List Session) → map session_tells ss ≡ map session_tells ts → session_of ss id ≡ None → session_of ts id ≡ None
+none_told id [] [] same none = refl
+none_told id [] (t ∷ ts) same none = absurd (cc)
+none_told id (s ∷ ss) [] same none = refl
+none_told id (s ∷ ss) (t ∷ ts) same none =
+    let name : s.id ≡ t.id = ap (λ x. x.0) (first_same (session_tells s) (session_tells t) (map session_tells ss) (map session_tells ts) same) in
+    let rest = rest_same (session_tells s) (session_tells t) (map session_tells ss) (map session_tells ts) same in
+    let go : (b : Bool) → cond b (Some s) (session_of ss id) ≡ None → cond b (Some t) (session_of ts id) ≡ None = elim [
+      | true ↦ λ h. absurd (cc)
+      | false ↦ λ h. none_told id ss ts rest h
+    ] in
+    ap (λ n. cond (bytes_eq n id) (Some t) (session_of ts id)) (sym name) ∙ go (bytes_eq s.id id) none
+
+pub distinct_told : (ss ts : List Session) → map session_tells ss ≡ map session_tells ts → AreDistinct ss → AreDistinct ts
+distinct_told [] [] same d = tt
+distinct_told [] (t ∷ ts) same d = absurd (cc)
+distinct_told (s ∷ ss) [] same d = tt
+distinct_told (s ∷ ss) (t ∷ ts) same d =
+    let name : s.id ≡ t.id = ap (λ x. x.0) (first_same (session_tells s) (session_tells t) (map session_tells ss) (map session_tells ts) same) in
+    let rest = rest_same (session_tells s) (session_tells t) (map session_tells ss) (map session_tells ts) same in
+    (none_told t.id ss ts rest (subst (λ n. session_of ss n ≡ None) name d.0), distinct_told ss ts rest d.1)

@@ -1,6 +1,7 @@
 pub mod AlikeLists
 pub mod LedgerPlaces
 mod LedgerRows
+mod HappenRows
 pub mod RoomPlaces
 pub mod SessionLists
 pub mod PlacedSteps

@@ -23,7 +23,7 @@ use Rattle.room_model.specs.Ledger.{is_full}
 use Rattle.room_model.specs.Sessions.{Session, Acted, session_of, change_session, is_connected, at_stage, told_at, queued_for, unless_reserved, if_room, view_added_to, view_removed_from, keep_set, with_members, with_queue, with_keep}
 use Rattle.room_model.specs.Room.{RoomValue, after_reserve, with_sessions, with_seats, ended, acted_on}
 use Rattle.room_laws.specs.Placed.{Placed, AreDistinct, stands, stage_of, is_reserved, is_kept, standing, standing_of}
-use Rattle.room_laws.specs.Places.{may_happen}
+use Rattle.room_laws.specs.Places.{has_place_for, is_moment, may_happen}
 use Rattle.room_laws.proofs.AlikeLists.{alike_more, alike_changed, alike_but, tells_mapped, tells_changed}
 use Rattle.room_laws.proofs.SessionLists.{named_key, session_mapped, session_changed, distinct_more, distinct_mapped, distinct_changed, distinct_but}
 
@@ -57,7 +57,7 @@ nobody None h = refl
 
 pub reserve_placed : (r : RoomValue) (session : List ℕ) (lapse : ℕ) → Placed r → may_happen r (event.Reserve session lapse) ≡ true → Placed (after_reserve r session lapse)
 reserve_placed r session lapse p h =
-    let free = (and_parts (not r.seats.locked && not (is_full r.seats)) (not (is_some (session_of r.sessions session))) h).1 in
+    let free = (and_parts (not r.seats.locked && not (is_full r.seats)) (not (is_some (session_of r.sessions session))) (and_parts (is_moment lapse) (has_place_for r session) h).1).1 in
     let mine : Session = record { id = session; stage = Reserved; members = no_members; permitted = root_alone r.schema; queue = []; keep = r.def.keep } in record {
       distinct = distinct_more r.sessions mine p.distinct (nobody (session_of r.sessions session) (turned (is_some (session_of r.sessions session)) free));
       alike = alike_more r.seats.entries r.sessions (record { session = session; seat = seat.Reserved lapse }) mine p.alike refl;

@@ -42,7 +42,7 @@ use Rattle.room_model.specs.Ledger.{Lapse, has_token, seated_with, take_of, take
 use Rattle.room_model.specs.Sessions.{Session, Acted, session_of, change_session, is_connected, at_stage, with_queue, with_members, with_keep, queued_for, told_at, told_to, unless_reserved, if_room, view_added_to, view_removed_from, keep_set}
 use Rattle.room_model.specs.Room.{RoomValue, new_room, room_step, opened_by, join_frame, after_enter, after_return, where_connected, after_read, after_drop, accepted, dropped, after_answer, acted_on, after_act, after_tick, tick_outs, frames_at, session_swept, outs_after, told_all, after_kick, with_sessions, with_seats, ended, after_lapse, lapse_outs, after_moment}
 use Rattle.room_laws.specs.Placed.{Placed, AreDistinct, stands, is_reserved, is_kept, standing, standing_of}
-use Rattle.room_laws.specs.Places.{may_happen, room_after}
+use Rattle.room_laws.specs.Places.{is_connected_in, is_moment, may_happen, room_after}
 use Rattle.room_laws.specs.StepLaws.{StepLaws, is_answer, is_entry, is_loss, is_end, goes_to, opens, loses, connected, RoomsObey}
 use Rattle.room_laws.proofs.AlikeLists.{Alike, first_alike, rest_alike, has_seat, has_reserved, has_kept}
 use Rattle.room_laws.proofs.SessionLists.{named_key, named_more, distinct_mapped}
@@ -221,13 +221,13 @@ drop_laws : (r : RoomValue) (session : List ℕ) (now : ℕ) (s : Session) → s
 drop_laws r session now s found name =
     let go : (b : Bool) → StepLaws r (event.Lost session now) (let x : RoomValue × List RoomOut = cond b (kept, out.Dropped s.id ∷ []) (ended r s.id, out.Left s.id ∷ []) in x) = elim [
       | true ↦ laws r (event.Lost session now) (kept, out.Dropped s.id ∷ []) refl (λ id. refl) refl
-          (λ id. dropped_connected r.sessions s id found_own ∙ ap (λ b. connected r id && not b) (sym (or_false (bytes_eq s.id id)))) (λ id h. absurd (cc)) told
+          (λ id. dropped_connected r.schema r.sessions s id found_own ∙ ap (λ b. connected r id && not b) (sym (or_false (bytes_eq s.id id)))) (λ id h. absurd (cc)) told
       | false ↦ laws r (event.Lost session now) (ended r s.id, out.Left s.id ∷ []) refl (λ id. refl) refl
           (λ id. ended_connected r s.id id ∙ ap (λ b. connected r id && not b) (sym (or_false (bytes_eq s.id id)))) (λ id h. absurd (cc)) told
     ] in go (nat_lt 0 s.keep)
   where
     kept : RoomValue
-    kept = with_seats (with_sessions r (change_session s.id dropped r.sessions)) (accepted r.seats (keep r.seats s.id (now + s.keep)))
+    kept = with_seats (with_sessions r (change_session s.id (dropped r.schema) r.sessions)) (accepted r.seats (keep r.seats s.id (now + s.keep)))
 
     found_own : session_of r.sessions s.id ≡ Some s
     found_own = ap (session_of r.sessions) name ∙ found
@@ -237,7 +237,7 @@ drop_laws r session now s found name =
 
 pub loss_laws : (r : RoomValue) (session : List ℕ) (now : ℕ) → may_happen r (event.Lost session now) ≡ true → StepLaws r (event.Lost session now) (room_step r (event.Lost session now))
 loss_laws r session now h =
-    connected_laws r (event.Lost session now) (session_of r.sessions session) (after_drop r now) h
+    connected_laws r (event.Lost session now) (session_of r.sessions session) (after_drop r now) (and_parts (is_moment now) (is_connected_in r session) h).1
     (λ s found is. drop_laws r session now s found (named_key (λ (s : Session). s.id) session r.sessions s found))
 
 -- ---- acts

@@ -110,15 +110,15 @@ read_placed r session (Err f) p = p
 
 -- a session that is connected has a seat to keep
 kept_cases : (r : RoomValue) (s : Session) (lapse : ℕ) (o : Option Seat) → Placed r → is_taken_seat o ≡ true
-    → Placed (with_seats (with_sessions r (change_session s.id dropped r.sessions)) (accepted r.seats (keep_of r.seats s.id lapse o)))
+    → Placed (with_seats (with_sessions r (change_session s.id (dropped r.schema) r.sessions)) (accepted r.seats (keep_of r.seats s.id lapse o)))
 kept_cases r s lapse None p there = cc
 kept_cases r s lapse (Some (seat.Reserved l)) p there = cc
-kept_cases r s lapse (Some (seat.Taken token)) p there = seated_placed r s.id (seat.Kept token lapse) dropped (λ s. refl) (λ s. refl) p
+kept_cases r s lapse (Some (seat.Taken token)) p there = seated_placed r s.id (seat.Kept token lapse) (dropped r.schema) (λ s. refl) (λ s. refl) p
 kept_cases r s lapse (Some (seat.Kept token l)) p there = cc
 
 drop_placed : (r : RoomValue) (now : ℕ) (s : Session) → Placed r → session_of r.sessions s.id ≡ Some s → is_connected s.stage ≡ true → Placed (after_drop r now s).0
 drop_placed r now s p found connected =
-    let kept : RoomValue = with_seats (with_sessions r (change_session s.id dropped r.sessions)) (accepted r.seats (keep r.seats s.id (now + s.keep))) in
+    let kept : RoomValue = with_seats (with_sessions r (change_session s.id (dropped r.schema) r.sessions)) (accepted r.seats (keep r.seats s.id (now + s.keep))) in
     let seated : is_taken_seat (seat_of r.seats s.id) ≡ true = has_seat r s.id p ∙ (ap (λ o. stand o) found ∙ connected) in
     let go : (b : Bool) → Placed (let x : RoomValue × List RoomOut = cond b (kept, out.Dropped s.id ∷ []) (ended r s.id, out.Left s.id ∷ []) in x).0 = elim [
       | true ↦ kept_cases r s (now + s.keep) (seat_of r.seats s.id) p seated

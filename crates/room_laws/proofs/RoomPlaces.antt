@@ -26,7 +26,7 @@ use Rattle.room_model.specs.Ledger.{is_full, take_seat, retake, keep, expire}
 use Rattle.room_model.specs.Sessions.{Session, Acted, session_of, change_session, is_connected}
 use Rattle.room_model.specs.Room.{RoomValue, new_room, with_sessions, with_seats, dropped, room_step, opened_by, after_enter, after_return, where_connected, after_read, after_drop, accepted, after_lapse, after_answer, acted_on, after_kick, after_act, ended}
 use Rattle.room_laws.specs.Ledgers.{Within, KeepsMax}
-use Rattle.room_laws.specs.Places.{may_happen, may_follow, room_after, RoomsKeepPlaces}
+use Rattle.room_laws.specs.Places.{has_place_for, is_moment, may_happen, may_follow, room_after, RoomsKeepPlaces}
 use Rattle.room_laws.proofs.LedgerPlaces.{ledgers_keep, left_keeps}
 
 -- a room keeps its places
@@ -44,7 +44,8 @@ ends r session within = left_keeps r.seats within session
 
 reserve_keeps : (r : RoomValue) (session : List ℕ) (lapse : ℕ) → Within r.seats → may_happen r (event.Reserve session lapse) ≡ true → Keeps r (room_step r (event.Reserve session lapse))
 reserve_keeps r session lapse within h =
-    let untaken : (not r.seats.locked && not (is_full r.seats)) ≡ true = (and_parts (not r.seats.locked && not (is_full r.seats)) (not (is_some (session_of r.sessions session))) h).0 in
+    let place : has_place_for r session ≡ true = (and_parts (is_moment lapse) (has_place_for r session) h).1 in
+    let untaken : (not r.seats.locked && not (is_full r.seats)) ≡ true = (and_parts (not r.seats.locked && not (is_full r.seats)) (not (is_some (session_of r.sessions session))) place).0 in
     let parts : (not r.seats.locked ≡ true) × (not (is_full r.seats) ≡ true) = and_parts (not r.seats.locked) (not (is_full r.seats)) untaken in
     let free : is_full r.seats ≡ false = turned (is_full r.seats) parts.1 in
     let more = length-append r.seats.entries (record { session = session; seat = seat.Reserved lapse } ∷ []) in
@@ -95,7 +96,7 @@ accepted_keeps seats (Err f) within h = (within, refl)
 
 drop_keeps : (r : RoomValue) (now : ℕ) (s : Session) → Within r.seats → Keeps r (after_drop r now s)
 drop_keeps r now s within =
-    let kept : RoomValue = with_seats (with_sessions r (change_session s.id dropped r.sessions)) (accepted r.seats (keep r.seats s.id (now + s.keep))) in
+    let kept : RoomValue = with_seats (with_sessions r (change_session s.id (dropped r.schema) r.sessions)) (accepted r.seats (keep r.seats s.id (now + s.keep))) in
     let go : (b : Bool) → Keeps r (cond b (kept, out.Dropped s.id ∷ []) (ended r s.id, out.Left s.id ∷ [])) = elim [
       | true ↦ accepted_keeps r.seats (keep r.seats s.id (now + s.keep)) within ((ledgers_keep r.seats within).keep s.id (now + s.keep))
       | false ↦ ends r s.id within

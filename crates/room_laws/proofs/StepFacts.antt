@@ -4,6 +4,7 @@ use Rattle.std.specs.List.{list_any, flat_map}
 use Rattle.std.specs.Option.{option_map, option_map_or}
 use Rattle.std.specs.Str.{bytes_eq}
 use Rattle.lists.proofs.SameBytes.{same_bytes}
+use Rattle.schema_model.specs.Classes.{Schema}
 use Rattle.room_model.specs.declared.event.RoomEvent.{RoomEvent}
 use Rattle.room_model.specs.declared.event.RoomOut.{RoomOut}
 use Rattle.room_model.specs.Sessions.{Session, session_of, change_session, is_connected}
@@ -59,12 +60,12 @@ ended_connected r session id =
     never false = refl
 
 -- once a seat is kept
-pub dropped_connected : (ss : List Session) (s : Session) (id : List ℕ) → session_of ss s.id ≡ Some s → stands is_connected (change_session s.id dropped ss) id ≡ (stands is_connected ss id && not (bytes_eq s.id id))
-dropped_connected ss s id found =
-    let go : (b : Bool) → bytes_eq s.id id ≡ b → stands is_connected (change_session s.id dropped ss) id ≡ (stands is_connected ss id && not b) = elim [
-      | true ↦ λ e. subst (λ n. stands is_connected (change_session s.id dropped ss) n ≡ (stands is_connected ss n && not true)) (same_bytes s.id id e)
-          (ap (λ o. option_map_or is_connected o false) (changed_own s.id dropped ss s (λ s e. refl) found) ∙ never (stands is_connected ss s.id))
-      | false ↦ λ e. ap (λ o. option_map_or is_connected o false) (changed_other s.id id dropped ss (λ s e. refl) e) ∙ stays (stands is_connected ss id)
+pub dropped_connected : (schema : Schema) (ss : List Session) (s : Session) (id : List ℕ) → session_of ss s.id ≡ Some s → stands is_connected (change_session s.id (dropped schema) ss) id ≡ (stands is_connected ss id && not (bytes_eq s.id id))
+dropped_connected schema ss s id found =
+    let go : (b : Bool) → bytes_eq s.id id ≡ b → stands is_connected (change_session s.id (dropped schema) ss) id ≡ (stands is_connected ss id && not b) = elim [
+      | true ↦ λ e. subst (λ n. stands is_connected (change_session s.id (dropped schema) ss) n ≡ (stands is_connected ss n && not true)) (same_bytes s.id id e)
+          (ap (λ o. option_map_or is_connected o false) (changed_own s.id (dropped schema) ss s (λ s e. refl) found) ∙ never (stands is_connected ss s.id))
+      | false ↦ λ e. ap (λ o. option_map_or is_connected o false) (changed_other s.id id (dropped schema) ss (λ s e. refl) e) ∙ stays (stands is_connected ss id)
     ] in go (bytes_eq s.id id) refl
   where
     never : (b : Bool) → false ≡ (b && not true)

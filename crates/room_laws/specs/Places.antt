@@ -1,9 +1,14 @@
 -- Rooms over lists of events: what a caller has to see to, and that the places in use never pass the room's. Ours.
-use Rattle.std.specs.Prelude.{◌≡◌, ℕ, ◌≤◌, Bool, true, false, not, ◌&&◌, List, [], ◌∷◌, is_some}
+use Rattle.std.specs.Prelude.{◌≡◌, ℕ, ◌≤◌, Bool, true, false, not, ◌&&◌, List, [], ◌∷◌, length, is_some, nat_le, nat_lt}
 use Rattle.std.specs.List.{fold}
 use Rattle.std.specs.Option.{option_map_or}
 use Rattle.schema_model.specs.Classes.{Schema}
+use Rattle.frame_model.specs.declared.frame.MsgKind.{MsgKind}
+use Rattle.frame_model.specs.declared.frame.MsgKind.TheVariants as kind
+use Rattle.room_model.specs.Limits.{longest_time, moment_bound, kind_bound}
 use Rattle.room_model.specs.declared.definition.RoomDef.{RoomDef}
+use Rattle.room_model.specs.declared.event.Act.{Act}
+use Rattle.room_model.specs.declared.event.Act.TheVariants as act
 use Rattle.room_model.specs.declared.event.RoomEvent.{RoomEvent}
 use Rattle.room_model.specs.declared.event.RoomEvent.TheVariants as event
 use Rattle.room_model.specs.Seats.{in_use}
@@ -15,13 +20,37 @@ use Rattle.room_model.specs.Room.{RoomValue, new_room, room_step}
 abbrev pub is_connected_in : RoomValue → List ℕ → Bool
 is_connected_in r session = option_map_or (λ (s : Session). is_connected s.stage) (session_of r.sessions session) false
 
--- an event may happen to a room: a reservation of a session that the room doesn't have, where it is neither locked nor
--- full; a frame and a loss of a session that has a connection; and any other
+-- the room has a place for a session: it is neither locked nor full, and doesn't have the session
+abbrev pub has_place_for : RoomValue → List ℕ → Bool
+has_place_for r session = not r.seats.locked && not (is_full r.seats) && not (is_some (session_of r.sessions session))
+
+-- a number may be a moment or a lapse
+abbrev pub is_moment : ℕ → Bool
+is_moment at = nat_lt at moment_bound
+
+-- a message may be about this
+abbrev pub is_short_kind : MsgKind → Bool
+is_short_kind (kind.Name name) = nat_lt (length name) kind_bound
+is_short_kind (kind.Num n) = true
+
+-- an act may happen: messages are about short kinds, and the time for which a seat is kept is within the limits
+abbrev pub may_act : Act → Bool
+may_act (act.Send session kind payload) = is_short_kind kind
+may_act (act.Raw session kind payload) = is_short_kind kind
+may_act (act.ToAll kind payload) = is_short_kind kind
+may_act (act.Keep session ms) = nat_le ms longest_time
+may_act a = true
+
+-- an event may happen to a room: a reservation of a session that it has a place for; a frame and a loss of a session that
+-- has a connection; any opening, any tick; moments and lapses within their bound, and acts within the limits
 abbrev pub may_happen : RoomValue → RoomEvent → Bool
-may_happen r (event.Reserve session lapse) = not r.seats.locked && not (is_full r.seats) && not (is_some (session_of r.sessions session))
+may_happen r (event.Reserve session lapse) = is_moment lapse && has_place_for r session
+may_happen r (event.Enter session token fresh) = true
 may_happen r (event.Frame session bytes) = is_connected_in r session
-may_happen r (event.Lost session now) = is_connected_in r session
-may_happen r e = true
+may_happen r (event.Lost session now) = is_moment now && is_connected_in r session
+may_happen r (event.Moment now) = is_moment now
+may_happen r (event.Act a) = may_act a
+may_happen r event.Tick = true
 
 -- the room after events
 abbrev pub room_after : RoomValue → List RoomEvent → RoomValue

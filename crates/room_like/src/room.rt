@@ -1,5 +1,6 @@
 //! A room, for whoever runs it.
 ghost use Rattle.std.specs.Prelude.{◌≡◌, ◌+◌, ◌≤◌, false, is_some, IfOk, IsErr, IsTrue, OnErr, OnOk};
+ghost use Rattle.room_model.specs.Definitions.{is_room_def};
 ghost use Rattle.room_model.specs.Ledger.{kept_by as keeper_of};
 ghost use Rattle.room_model.specs.Room.{new_room};
 ghost use Rattle.room_model.specs.Seats.{in_use as places_in_use};
@@ -43,14 +44,17 @@ pub trait RoomLike: Sized + Drop {
     /// What holds of a new room, and after each step.
     ghost Holds: { RoomValue → Type 0 };
 
-    /// A new room of a definition.
+    /// A new room of a definition whose places and times are within the limits, and whose filter keys are few and differ;
+    /// see `RoomDef::is_valid`.
     fn make(alloc: Global, schema: &Schema, def: &RoomDef, criteria: &Texts) -> Result<Self, Memory>
+        requires { IsTrue (is_room_def def.now) }
         ensures value { IfOk result (λ r. room r ≡ new_room schema.now def.now criteria.now) }
         ensures fresh { IfOk result (λ r. is_spent r ≡ false) };
 
     /// The room's step. Unless the room is spent a reservation is of a session that the room doesn't have, and the room is
-    /// neither locked nor full; a frame and a loss are of a session that has a connection. Any event may come to a spent
-    /// room. Where it answers `Memory` the room is spent, and took no more steps than `costs` says. The texts that an
+    /// neither locked nor full; a frame and a loss are of a session that has a connection; moments and lapses are below
+    /// 2^54, the time of a Keep is at most an hour, and the kind of a message is shorter than 2^32 bytes. Any event may come
+    /// to a spent room. Where it answers `Memory` the room is spent, and took no more steps than `costs` says. The texts that an
     /// event's command puts are UTF-8, as those of every command are.
     fn step<L: Ledger>(
         &mut self,

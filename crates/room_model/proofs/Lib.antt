@@ -1,1 +1,2 @@
 pub mod RoomRows
+pub mod DefinitionParts

@@ -1,12 +1,14 @@
 -- Examples: what a room's step makes of each event, and what it gives; worked out by hand.
-use Rattle.std.specs.Prelude.{◌≡◌, ℕ, List, [], ◌∷◌, ◌++◌, map, Some, None, Ok, Err, pos, negsuc, codes, refl}
+use Rattle.std.specs.Prelude.{◌≡◌, ℕ, true, false, List, [], ◌∷◌, ◌++◌, map, Some, None, Ok, Err, pos, negsuc, codes, refl}
 use Rattle.std.specs.List.{repeat}
 use Rattle.state_model.specs.declared.command.Command.TheVariants as command
 use Rattle.state_model.specs.declared.command.TableFault.TheVariants.{NoRef}
 use Rattle.schema_model.specs.declared.value.Value.TheVariants as value
 use Rattle.schema_model.specs.declared.place.Pair.{Pair}
 use Rattle.state_model.specs.Members.{no_members}
-use Rattle.state_model.proofs.Examples.{flat}
+use Rattle.state_model.specs.declared.command.Command.{Command}
+use Rattle.state_model.specs.declared.row.RowEntry.{RowEntry}
+use Rattle.state_model.proofs.Examples.{flat, players}
 use Rattle.frame_model.specs.declared.frame.MsgKind.TheVariants as kind
 use Rattle.frame_model.proofs.Opened.{reading}
 use Rattle.room_model.specs.declared.definition.RoomDef.{RoomDef}
@@ -179,3 +181,86 @@ a_tick_tells_what_changed = refl
 
 a_tick_without_a_change : gives_last (live ++ event.Tick ∷ []) ≡ []
 a_tick_without_a_change = refl
+
+-- ---- several entries that lapse, and what stays over a drop
+
+-- a room of three places
+abbrev wide : RoomValue
+wide = new_room flat (record { name = codes "crowd"; max = 3; seat = 15000; patch = 50; keep = 20000; filter = [] }) []
+
+abbrev c : List ℕ
+c = codes "ccccccccc"
+
+-- two clients that came, and between them a reservation
+abbrev three_came : List RoomEvent
+three_came = event.Reserve a 15000 ∷ event.Reserve b 15000 ∷ event.Reserve c 15000 ∷ event.Enter a None token ∷ event.Enter c None other ∷ []
+
+abbrev room_after : RoomValue → List RoomEvent → RoomValue
+room_after r [] = r
+room_after r (e ∷ es) = room_after (room_step r e).0 es
+
+-- by lapse: the reservation untold, then who dropped first
+a_moment_ends_entries_by_their_lapse : last_of (gives wide (three_came ++ event.Lost c 0 ∷ event.Lost a 5 ∷ event.Moment 20005 ∷ [])) ≡ out.Left c ∷ out.Left a ∷ []
+a_moment_ends_entries_by_their_lapse = refl
+
+-- at one moment by the order of reserving, whoever dropped first
+entries_of_one_lapse_end_as_they_were_reserved : last_of (gives wide (three_came ++ event.Lost c 5 ∷ event.Lost a 5 ∷ event.Moment 20005 ∷ [])) ≡ out.Left a ∷ out.Left c ∷ []
+entries_of_one_lapse_end_as_they_were_reserved = refl
+
+-- only what has lapsed by then
+a_moment_leaves_what_lapses_later : map (λ (s : Session). s.id) (room_after wide (three_came ++ event.Lost c 0 ∷ event.Lost a 5 ∷ event.Moment 20004 ∷ [])).sessions ≡ a ∷ []
+a_moment_leaves_what_lapses_later = refl
+
+-- a return takes the place in the order that the session had
+a_return_keeps_the_order : map (λ (s : Session). s.id) (room_after wide (three_came ++ event.Lost a 0 ∷ event.Enter a (Some token) (codes "token0003") ∷ [])).sessions ≡ a ∷ b ∷ c ∷ []
+a_return_keeps_the_order = refl
+
+the_lock_is_set_and_taken_off : map (λ es. (room_after room es).seats.locked) ((event.Act act.Lock ∷ []) ∷ (event.Act act.Lock ∷ event.Act act.Unlock ∷ []) ∷ []) ≡ true ∷ false ∷ []
+the_lock_is_set_and_taken_off = refl
+
+locks_give_nothing : gives room (event.Act act.Lock ∷ event.Act act.Unlock ∷ []) ≡ [] ∷ [] ∷ []
+locks_give_nothing = refl
+
+-- a keep time is for the next drop: a seat that is kept has its lapse already
+the_lapse_of_a_kept_seat_stays : gives room (kept ++ event.Act (act.Keep a 0) ∷ event.Moment 20099 ∷ event.Moment 20100 ∷ []) ≡ gives room kept ++ [] ∷ [] ∷ (out.Left a ∷ []) ∷ []
+the_lapse_of_a_kept_seat_stays = refl
+
+-- the members of a view stay over a drop and a return
+members_stay_over_a_return : map (λ es. map (λ (s : Session). s.members.now) (room_after room (live ++ event.Act (act.ViewAdd a root_pair) ∷ es)).sessions)
+    ([] ∷ (event.Lost a 100 ∷ []) ∷ (event.Lost a 100 ∷ event.Enter a (Some token) other ∷ []) ∷ [])
+    ≡ repeat 3 (((root_pair ∷ []) ∷ []) ∷ [])
+members_stay_over_a_return = refl
+
+-- ---- a tick that frees rows
+
+-- a room of two clients who watch a player, whose gold one of them sees
+abbrev game : RoomValue
+game = new_room players def []
+
+abbrev gold : Pair
+gold = record { who = 2; tag = negsuc 0 }
+
+abbrev does : Command → RoomEvent
+does x = event.Act (act.State x)
+
+abbrev watched : List RoomEvent
+watched =
+    event.Reserve a 15000 ∷ event.Reserve b 15000 ∷ event.Enter a None token ∷ event.Enter b None other ∷ event.Frame a (10 ∷ []) ∷ event.Frame b (10 ∷ [])
+    ∷ does (command.MakeFor (record { class = 0; field = 0 })) ∷ does (command.Put 0 0 (value.Link 1)) ∷ does (command.Make 1) ∷ does (command.Put 2 1 (value.Whole (pos 7)))
+    ∷ does (command.PutKey 1 (codes "s1") (value.Link 2)) ∷ event.Act (act.ViewAdd a gold) ∷ event.Tick ∷ []
+
+-- the player is taken out
+abbrev taken_out : List RoomEvent
+taken_out = watched ++ does (command.DelKey 1 (codes "s1")) ∷ []
+
+-- whoever saw it is told that it goes
+a_freed_row_goes_from_every_view : last_of (gives game (taken_out ++ event.Tick ∷ [])) ≡ out.Send a (15 ∷ 255 ∷ 1 ∷ 64 ∷ 0 ∷ []) ∷ out.Send b (15 ∷ 255 ∷ 1 ∷ 64 ∷ 0 ∷ []) ∷ []
+a_freed_row_goes_from_every_view = refl
+
+-- its pairs are gone behind the tick, and so is the row
+the_pairs_of_a_freed_row_go : map (λ es. map (λ (s : Session). s.members.now) (room_after game es).sessions) (taken_out ∷ (taken_out ++ event.Tick ∷ []) ∷ [])
+    ≡ ((gold ∷ []) ∷ [] ∷ []) ∷ ([] ∷ [] ∷ []) ∷ []
+the_pairs_of_a_freed_row_go = refl
+
+the_freed_row_is_gone : map (λ es. map (λ (e : RowEntry). e.who) (room_after game es).state.rows) (taken_out ∷ (taken_out ++ event.Tick ∷ []) ∷ []) ≡ (0 ∷ 1 ∷ 2 ∷ []) ∷ (0 ∷ 1 ∷ []) ∷ []
+the_freed_row_is_gone = refl

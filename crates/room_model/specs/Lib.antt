@@ -3,3 +3,4 @@ pub mod Ledger
 pub mod Limits
 pub mod Sessions
 pub mod Room
+pub mod Definitions

@@ -34,7 +34,7 @@ use Rattle.room_model.specs.declared.seat.SeatFault.{SeatFault}
 use Rattle.room_model.specs.declared.seat.SeatFault.TheVariants.{IdInUse}
 use Rattle.room_model.specs.Seats.{Seats, new_seats, seat_of, is_kept_seat, has_reservation, reserved_seat, left_seat}
 use Rattle.room_model.specs.Ledger.{take_seat, retake, keep, expire, set_locked}
-use Rattle.room_model.specs.Sessions.{Session, Acted, session_of, change_session, sessions_but, is_connected, at_stage, with_queue, told_to, view_added_to, view_removed_from, keep_set}
+use Rattle.room_model.specs.Sessions.{Session, Acted, session_of, change_session, sessions_but, is_connected, at_stage, told_to, view_added_to, view_removed_from, keep_set}
 
 -- a room: its schema, definition and criteria, its state, the shared rows at the last tick, its places, and its sessions in the order of reserving
 pub record RoomValue : Type 0 where
@@ -137,20 +137,22 @@ where_connected r (Some s) happens = if is_connected s.stage then happens s else
 abbrev pub after_frame : RoomValue → List ℕ → List ℕ → RoomValue × List RoomOut
 after_frame r session bytes = where_connected r (session_of r.sessions session) (λ s. after_read r session (read_client bytes))
 
--- ---- a lost connection: the seat is kept where it has a time, and what waited is forgotten; else it ends
+-- ---- a lost connection: the seat is kept where it has a time, and what waited and what was seen are forgotten, since a
+-- full state comes next; else it ends
 
 -- the places of a call that was accepted
 abbrev pub accepted : Seats → Result Seats SeatFault → Seats
 accepted seats (Ok after) = after
 accepted seats (Err f) = seats
 
-abbrev pub dropped : Session → Session
-dropped s = with_queue [] (at_stage Kept s)
+-- only its members and its keep time stay
+abbrev pub dropped : Schema → Session → Session
+dropped schema s = record { id = s.id; stage = Kept; members = s.members; permitted = root_alone schema; queue = []; keep = s.keep }
 
 abbrev pub after_drop : RoomValue → ℕ → Session → RoomValue × List RoomOut
 after_drop r now s =
     if nat_lt 0 s.keep
-    then (with_seats (with_sessions r (change_session s.id dropped r.sessions)) (accepted r.seats (keep r.seats s.id (now + s.keep))), out.Dropped s.id ∷ [])
+    then (with_seats (with_sessions r (change_session s.id (dropped r.schema) r.sessions)) (accepted r.seats (keep r.seats s.id (now + s.keep))), out.Dropped s.id ∷ [])
     else (ended r s.id, out.Left s.id ∷ [])
 
 abbrev pub after_loss : RoomValue → List ℕ → ℕ → RoomValue × List RoomOut

@@ -1,5 +1,10 @@
 ghost use Rattle.std.specs.Prelude.{◌≡◌, IfOk};
+ghost use Rattle.std.specs.List.{list_any};
+ghost use Rattle.std.specs.Str.{bytes_eq};
+ghost use Rattle.state_model.specs.Sound.{keys_differ};
+ghost use Rattle.room_model.specs.Definitions.{is_room_def, is_within};
 
+use crate::limits::{LONGEST_TIME, MOST_FILTERS, MOST_PLACES};
 use lists::{Memory, Seq, Text};
 use std::alloc::Global;
 
@@ -50,6 +55,45 @@ impl RoomDef {
             filter: copy_texts(alloc, &self.filter)?,
         })
     }
+
+    /// Whether a room may be made of it: its places and times are within the limits, and the keys of its filter are few and
+    /// differ.
+    pub fn is_valid(&self) -> bool
+        ensures { result ≡ is_room_def self.now }
+    {
+        is_within(1, MOST_PLACES, u64::from(self.max))
+            && is_within(1, LONGEST_TIME, self.seat)
+            && is_within(1, LONGEST_TIME, self.patch)
+            && is_within(0, LONGEST_TIME, self.keep)
+            && self.filter.len() <= MOST_FILTERS
+            && are_different(self.filter.as_slice())
+    }
+}
+
+// Whether a number is from one to another.
+fn is_within(low: u64, high: u64, number: u64) -> bool
+    ensures { result ≡ is_within low high number }
+{
+    low <= number && number <= high
+}
+
+// Whether no two names are the same.
+fn are_different(names: &[Text]) -> bool
+    ensures { result ≡ keys_differ names.now }
+{
+    let Some((first, rest)) = names.split_first() else {
+        return true;
+    };
+    !is_among(first, rest) && are_different(rest)
+}
+
+// Whether a name is among others.
+fn is_among(name: &Text, names: &[Text]) -> bool
+    ensures { result ≡ list_any (λ n. bytes_eq name.now n) names.now }
+{
+    names
+        .iter()
+        .any(|other| name.as_slice() == other.as_slice())
 }
 
 pub type Defs = Seq<RoomDef>;

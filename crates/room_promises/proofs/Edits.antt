@@ -1,4 +1,4 @@
--- Reservations, commands and view edits, and what they make of a life that goes on.
+-- Reservations, commands, view edits, keep times and locks, and what they make of a life that goes on.
 use Rattle.std.proofs.Common.{◌≡◌, ℕ, Bool, true, false, cond, List, [], ◌∷◌, Option, Some, None, Result, Ok, Err, refl, sym, ap, ◌∙◌}
 use Rattle.std.specs.Prelude.{IfOk}
 use Rattle.std.specs.List.{flat_map}
@@ -19,14 +19,15 @@ use Rattle.room_model.specs.declared.event.Stage.{Stage}
 use Rattle.room_model.specs.declared.event.Stage.TheVariants.{Reserved, Joining, Due, Live, Kept}
 use Rattle.room_model.specs.declared.refusal.Refusal.{Refusal}
 use Rattle.room_model.specs.declared.refusal.Refusal.TheVariants as refusal
-use Rattle.room_model.specs.Sessions.{Session, Acted, session_of, change_session, with_members, unless_reserved, if_room, view_added_to, view_removed_from}
-use Rattle.room_model.specs.Room.{RoomValue, after_reserve, after_answer, made_outs, acted_on, with_sessions}
+use Rattle.room_model.specs.Seats.{Seats}
+use Rattle.room_model.specs.Sessions.{Session, Acted, session_of, change_session, with_members, with_keep, unless_reserved, if_room, view_added_to, view_removed_from, keep_set}
+use Rattle.room_model.specs.Room.{RoomValue, after_reserve, after_answer, made_outs, acted_on, with_sessions, with_seats}
 use Rattle.room_laws.proofs.SessionLists.{named_key, named_more}
 use Rattle.room_promises.specs.RoomLives.{RoomLife, given_by}
 use Rattle.room_promises.proofs.GoodLives.{held, GoesOn}
 use Rattle.room_promises.proofs.LifeSteps.{StepsOn, quiet, changed_here, changed_elsewhere}
 
--- ---- a view edit keeps of a session what its life depends on
+-- ---- a view edit, or a keep time that is set, keeps of a session what its life depends on
 
 pub record Edited (s : Session) (a : Acted) : Type 0 where
   pub name : a.session.id ≡ s.id
@@ -60,6 +61,9 @@ removed_edits schema rows p s = unless_edits s.stage s _ (go (is_live rows p.who
     go : (b : Bool) → Edits s (cond b (Ok (record { session = with_members (view_removed schema rows p s.members) s; outs = [] })) (Err (refusal.Table NoRef)))
     go true = record { name = refl; same = refl; silent = refl }
     go false = tt
+
+pub keep_edits : (ms : ℕ) (s : Session) → Edits s (keep_set ms s)
+keep_edits ms s = unless_edits s.stage s (Ok (record { session = with_keep ms s; outs = [] })) (record { name = refl; same = refl; silent = refl })
 
 module _ (schema : Schema) (rows : List RowEntry) (r : RoomValue) (l : RoomLife) (g : GoesOn schema rows r.sessions l) where
   -- where nothing is done and nothing is given to it
@@ -101,6 +105,10 @@ module _ (schema : Schema) (rows : List RowEntry) (r : RoomValue) (l : RoomLife)
   pub command_on : (x : Result (State × Option ℕ) TableFault) → StepsOn schema rows (after_answer r x) [] l
   command_on (Ok x) = quiet schema rows r.sessions (after_answer r (Ok x)) [] l g g.session g.there refl refl (made_silent x.1)
   command_on (Err f) = still (out.Refused (refusal.Table f) ∷ []) refl
+
+  -- other places
+  pub seats_on : (seats : Seats) → StepsOn schema rows (with_seats r seats, []) [] l
+  seats_on seats = quiet schema rows r.sessions (with_seats r seats, []) [] l g g.session g.there refl refl refl
 
   -- a reservation of another session
   pub reserve_on : (session : List ℕ) (lapse : ℕ) → StepsOn schema rows (after_reserve r session lapse, []) [] l

@@ -1,8 +1,12 @@
 pub mod GoodLives
 pub mod GivenOwn
+pub mod EventCases
 pub mod LifeSteps
 pub mod Openings
 pub mod Frames
+pub mod Losses
+pub mod Lapses
+pub mod Kicks
 pub mod Edits
 pub mod TickFits
 pub mod TickSteps
@@ -11,4 +15,8 @@ pub mod RoomSteps
 pub mod TickBytes
 pub mod RunSteps
 pub mod RoomsKept
+pub mod Tokens
+pub mod Waiting
+pub mod Returned
 mod TwoLives
+mod LifeRows

@@ -1,5 +1,5 @@
--- An opening: each way in which it may go, and what it makes of a life that goes on.
-use Rattle.std.proofs.Common.{◌≡◌, ℕ, Bool, true, false, not, cond, ◌&&◌, List, [], ◌∷◌, ◌++◌, Option, Some, None, Result, Ok, Err, refl, sym, ap, ap₂, subst, ◌∙◌}
+-- An opening, and what it makes of a life that goes on.
+use Rattle.std.proofs.Common.{◌≡◌, ℕ, Bool, true, false, not, cond, ◌&&◌, List, [], ◌∷◌, ◌++◌, Option, Some, Ok, refl, sym, ap, ap₂, subst, ◌∙◌}
 use Rattle.std.specs.List.{flat_map}
 use Rattle.std.specs.Option.{option_map, option_map_or}
 use Rattle.std.specs.Str.{bytes_eq}
@@ -10,14 +10,10 @@ use Rattle.room_model.specs.declared.event.RoomOut.{RoomOut}
 use Rattle.room_model.specs.declared.event.RoomOut.TheVariants as out
 use Rattle.room_model.specs.declared.event.Stage.{Stage}
 use Rattle.room_model.specs.declared.event.Stage.TheVariants.{Reserved, Joining, Due, Live, Kept}
-use Rattle.room_model.specs.declared.seat.SeatFault.{SeatFault}
-use Rattle.room_model.specs.declared.seat.SeatFault.TheVariants as fault
-use Rattle.room_model.specs.declared.seat.Seat.{Seat}
 use Rattle.room_model.specs.declared.seat.Seat.TheVariants as seat
-use Rattle.room_model.specs.Seats.{Seats, seat_of, is_kept_seat, has_reservation}
-use Rattle.room_model.specs.Ledger.{take_seat, retake_of}
+use Rattle.room_model.specs.Seats.{Seats, seat_of, seated, is_reservation, is_kept_seat}
 use Rattle.room_model.specs.Sessions.{Session, session_of, change_session, at_stage}
-use Rattle.room_model.specs.Room.{RoomValue, opened_by, after_enter, after_return, join_frame}
+use Rattle.room_model.specs.Room.{RoomValue, opened_by, after_enter, join_frame}
 use Rattle.room_laws.specs.Placed.{Placed, is_reserved, is_kept}
 use Rattle.room_laws.proofs.AlikeLists.{has_reserved, has_kept}
 use Rattle.life_model.specs.Entries.{Entry, Record, Opened, Sending, Frame}
@@ -26,6 +22,7 @@ use Rattle.life_model.specs.Sent as standing
 use Rattle.life_model.specs.Sent.{Progress}
 use Rattle.room_promises.specs.RoomLives.{RoomLife, has_conn, given_by}
 use Rattle.room_promises.proofs.GoodLives.{held, AreMessages, Fits, GoesOn}
+use Rattle.room_promises.proofs.EventCases.{enter_cases}
 use Rattle.room_promises.proofs.LifeSteps.{recorded, unopened, StepsOn, quiet, changed_here, changed_elsewhere}
 
 -- a session without a connection
@@ -57,39 +54,14 @@ rests_closed Joining h = cc
 rests_closed Due h = cc
 rests_closed Live h = cc
 
--- ---- the ways in which an opening may go
+-- a session with a reservation or a kept seat has no connection
+rests_reserved : (r : RoomValue) (session : List ℕ) (lapse : ℕ) → Placed r → seat_of r.seats session ≡ Some (seat.Reserved lapse) → (s : Session) → session_of r.sessions session ≡ Some s → is_at_rest s.stage ≡ true
+rests_reserved r session lapse p at s there =
+    reserved_rests s.stage (sym (ap (λ o. option_map_or is_reserved (option_map (λ (s : Session). s.stage) o) false) there) ∙ (sym (has_reserved r session p) ∙ ap is_reservation at))
 
-module _ (P : RoomValue × List RoomOut → Type 0) (r : RoomValue) (session fresh : List ℕ) (p : Placed r) (in_use : P (r, out.TokenInUse session ∷ [])) (no_seat : P (r, out.NoSeat session ∷ []))
-    (opened : (seats : Seats) (told : RoomOut) → ((q : List ℕ) → given_by q told ≡ []) → ((s : Session) → session_of r.sessions session ≡ Some s → is_at_rest s.stage ≡ true)
-    → P (opened_by r session fresh told (Ok seats))) where
-  by_answer : (told : RoomOut) (x : Result Seats SeatFault) → ((q : List ℕ) → given_by q told ≡ []) → ((s : Session) → session_of r.sessions session ≡ Some s → is_at_rest s.stage ≡ true)
-      → P (opened_by r session fresh told x)
-  by_answer told (Ok seats) given rests = opened seats told given rests
-  by_answer told (Err fault.IdInUse) given rests = in_use
-  by_answer told (Err fault.Locked) given rests = no_seat
-  by_answer told (Err fault.Full) given rests = no_seat
-  by_answer told (Err fault.NoSeat) given rests = no_seat
-  by_answer told (Err fault.WrongToken) given rests = no_seat
-
-  by_kept : (token : List ℕ) (o : Option Seat) → seat_of r.seats session ≡ o → P (opened_by r session fresh (out.Back session) (retake_of r.seats session token fresh o))
-  by_kept token None found = no_seat
-  by_kept token (Some (seat.Reserved lapse)) found = no_seat
-  by_kept token (Some (seat.Taken t)) found = no_seat
-  by_kept token (Some (seat.Kept t lapse)) found =
-      by_answer (out.Back session) (retake_of r.seats session token fresh (Some (seat.Kept t lapse))) (λ q. refl)
-      (λ s there. kept_rests s.stage (sym (ap (λ o. option_map_or is_kept (option_map (λ (s : Session). s.stage) o) false) there) ∙ (sym (has_kept r session p) ∙ ap is_kept_seat found)))
-
-  by_return : (token : Option (List ℕ)) → P (after_return r session token fresh)
-  by_return None = no_seat
-  by_return (Some token) = by_kept token (seat_of r.seats session) refl
-
-  pub enter_cases : (token : Option (List ℕ)) → P (after_enter r session token fresh)
-  enter_cases token =
-      let go : (b : Bool) → has_reservation r.seats session ≡ b → P (cond b (opened_by r session fresh (out.Entered session) (take_seat r.seats session fresh)) (after_return r session token fresh)) = elim [
-        | true ↦ λ has. by_answer (out.Entered session) (take_seat r.seats session fresh) (λ q. refl)
-            (λ s there. reserved_rests s.stage (sym (ap (λ o. option_map_or is_reserved (option_map (λ (s : Session). s.stage) o) false) there) ∙ (sym (has_reserved r session p) ∙ has)))
-        | false ↦ λ e. by_return token
-      ] in go (has_reservation r.seats session) refl
+rests_kept : (r : RoomValue) (session t : List ℕ) (lapse : ℕ) → Placed r → seat_of r.seats session ≡ Some (seat.Kept t lapse) → (s : Session) → session_of r.sessions session ≡ Some s → is_at_rest s.stage ≡ true
+rests_kept r session t lapse p at s there =
+    kept_rests s.stage (sym (ap (λ o. option_map_or is_kept (option_map (λ (s : Session). s.stage) o) false) there) ∙ (sym (has_kept r session p) ∙ ap is_kept_seat at))
 
 -- ---- a life
 
@@ -160,5 +132,6 @@ module _ (schema : Schema) (rows : List RowEntry) (r : RoomValue) (l : RoomLife)
 
   pub enter_on : (session : List ℕ) (token : Option (List ℕ)) (fresh : List ℕ) → Placed r → StepsOn schema rows (after_enter r session token fresh) (opening fresh (after_enter r session token fresh).0) l
   enter_on session token fresh p =
-      enter_cases (λ x. StepsOn schema rows x (opening fresh x.0) l) r session fresh p
-      (refused fresh (out.TokenInUse session) refl) (refused fresh (out.NoSeat session) refl) (opened_on session fresh) token
+      enter_cases (λ x. StepsOn schema rows x (opening fresh x.0) l) r session fresh token (refused fresh (out.TokenInUse session) refl) (refused fresh (out.NoSeat session) refl)
+      (λ lapse at new. opened_on session fresh (seated r.seats session (seat.Taken fresh)) (out.Entered session) (λ q. refl) (rests_reserved r session lapse p at))
+      (λ t lapse is at new. opened_on session fresh (seated r.seats session (seat.Taken fresh)) (out.Back session) (λ q. refl) (rests_kept r session t lapse p at))

@@ -1,7 +1,6 @@
 -- What holds of a room at each point of a run, and after each event.
-use Rattle.std.proofs.Common.{◌≡◌, ℕ, Bool, true, false, cond, List, [], ◌∷◌, Option, Some, None, Result, Ok, Err, refl, sym, ap, subst, ◌∙◌, zero-le}
+use Rattle.std.proofs.Common.{◌≡◌, ℕ, Bool, true, false, List, Option, Some, None, Result, Ok, Err, refl, sym, ap, subst, ◌∙◌, zero-le}
 use Rattle.std.specs.Option.{option_map}
-use Rattle.lists.proofs.SameBytes.{same_bytes}
 use Rattle.schema_model.specs.Classes.{Schema, is_kept}
 use Rattle.state_model.specs.declared.command.Command.{Command}
 use Rattle.state_model.specs.declared.command.TableFault.{TableFault}
@@ -9,22 +8,24 @@ use Rattle.state_model.specs.State.{State, new_state, swept}
 use Rattle.state_model.specs.Shown.{shared}
 use Rattle.state_model.specs.Commands.{do_command}
 use Rattle.state_model.specs.Worded.{is_worded_command}
+use Rattle.frame_model.specs.Reading.{read_client}
+use Rattle.frame_model.specs.declared.fault.FrameFault.{FrameFault}
+use Rattle.frame_model.specs.declared.frame.ClientFrame.{ClientFrame}
 use Rattle.frame_model.specs.declared.frame.ClientFrame.TheVariants as client
 use Rattle.room_model.specs.declared.definition.RoomDef.{RoomDef}
 use Rattle.room_model.specs.declared.event.Act.TheVariants as act
 use Rattle.room_model.specs.declared.event.RoomEvent.{RoomEvent}
 use Rattle.room_model.specs.declared.event.RoomEvent.TheVariants as event
-use Rattle.room_model.specs.declared.event.RoomOut.{RoomOut}
 use Rattle.room_model.specs.declared.refusal.Refusal.{Refusal}
-use Rattle.room_model.specs.Sessions.{Session, Acted, session_of, is_connected, view_added_to, view_removed_from}
-use Rattle.room_model.specs.Room.{RoomValue, new_room, room_step, where_connected, after_read, after_frame, after_enter, after_answer, acted_on}
+use Rattle.room_model.specs.Sessions.{Acted, session_of, view_added_to, view_removed_from, keep_set}
+use Rattle.room_model.specs.Room.{RoomValue, new_room, room_step, after_read, after_frame, after_enter, after_loss, after_moment, after_kick, after_answer, acted_on}
 use Rattle.room_laws.specs.Ledgers.{Within}
 use Rattle.room_laws.specs.Placed.{Placed}
 use Rattle.room_laws.specs.Places.{may_happen}
 use Rattle.room_laws.proofs.RoomPlaces.{step_keeps}
 use Rattle.room_laws.proofs.RoomPlaced.{step_placed, new_placed}
-use Rattle.room_like.specs.Taken.{is_taken, is_acknowledgement, is_worded_event}
-use Rattle.room_promises.proofs.Openings.{enter_cases}
+use Rattle.room_like.specs.Taken.{is_taken, is_worded_event}
+use Rattle.room_promises.proofs.EventCases.{enter_cases, where_cases, loss_cases, moment_cases, kick_cases}
 use Rattle.room_promises.proofs.StateFacts.{GoodStates, new_states, command_states, swept_states}
 
 -- a room of the schema: its places and sessions tell the same, and its state is a later one than that of the last tick
@@ -54,18 +55,29 @@ record Same (r t : RoomValue) : Type 0 where
 same_room : (r : RoomValue) → Same r r
 same_room r = record { schema = refl; state = refl; shared = refl }
 
-same_entered : (r : RoomValue) (session : List ℕ) (token : Option (List ℕ)) (fresh : List ℕ) → Placed r → Same r (after_enter r session token fresh).0
-same_entered r session token fresh p =
-    enter_cases (λ x. Same r x.0) r session fresh p (same_room r) (same_room r) (λ seats told given rests. record { schema = refl; state = refl; shared = refl }) token
+same_entered : (r : RoomValue) (session : List ℕ) (token : Option (List ℕ)) (fresh : List ℕ) → Same r (after_enter r session token fresh).0
+same_entered r session token fresh =
+    enter_cases (λ x. Same r x.0) r session fresh token (same_room r) (same_room r) (λ lapse at new. record { schema = refl; state = refl; shared = refl }) (λ t lapse is at new. record { schema = refl; state = refl; shared = refl })
 
-same_acknowledged : (r : RoomValue) (id : List ℕ) (o : Option Session) → Same r (where_connected r o (λ s. after_read r id (Ok client.Ack))).0
-same_acknowledged r id None = same_room r
-same_acknowledged r id (Some s) =
-    let go : (b : Bool) → Same r (let x : RoomValue × List RoomOut = cond b (after_read r id (Ok client.Ack)) (r, []) in x).0 = elim [ true ↦ record { schema = refl; state = refl; shared = refl } | false ↦ same_room r ] in
-    go (is_connected s.stage)
+same_read : (r : RoomValue) (id : List ℕ) (x : Result ClientFrame FrameFault) → Same r (after_read r id x).0
+same_read r id (Ok client.Ack) = record { schema = refl; state = refl; shared = refl }
+same_read r id (Ok client.Leave) = record { schema = refl; state = refl; shared = refl }
+same_read r id (Ok (client.Msg kind payload)) = same_room r
+same_read r id (Ok (client.Raw kind payload)) = same_room r
+same_read r id (Err f) = same_room r
 
-same_framed : (r : RoomValue) (id bytes : List ℕ) → is_acknowledgement bytes ≡ true → Same r (after_frame r id bytes).0
-same_framed r id bytes is = subst (λ bs. Same r (after_frame r id bs).0) (sym (same_bytes bytes (10 ∷ []) is)) (same_acknowledged r id (session_of r.sessions id))
+same_framed : (r : RoomValue) (id bytes : List ℕ) → Same r (after_frame r id bytes).0
+same_framed r id bytes = where_cases (λ x. Same r x.0) r (session_of r.sessions id) (λ s. after_read r id (read_client bytes)) (λ off. same_room r) (λ s found is. same_read r id (read_client bytes))
+
+same_lost : (r : RoomValue) (id : List ℕ) (now : ℕ) → Same r (after_loss r id now).0
+same_lost r id now =
+    loss_cases (λ x. Same r x.0) r id now (λ off. same_room r) (λ s lapse found is. record { schema = refl; state = refl; shared = refl }) (λ s found is. record { schema = refl; state = refl; shared = refl })
+
+same_lapsed : (r : RoomValue) (now : ℕ) → Same r (after_moment r now).0
+same_lapsed r now = moment_cases (λ x. Same r x.0) r now (same_room r) (λ x id h. record { schema = h.schema; state = h.state; shared = h.shared })
+
+same_kicked : (r : RoomValue) (id : List ℕ) (code : ℕ) → Same r (after_kick r code (session_of r.sessions id)).0
+same_kicked r id code = kick_cases (λ x. Same r x.0) r id code (λ f nobody. same_room r) (λ s found. record { schema = refl; state = refl; shared = refl })
 
 same_acted : (r : RoomValue) (id : List ℕ) (x : Option (Result Acted Refusal)) → Same r (acted_on r id x).0
 same_acted r id None = same_room r
@@ -113,11 +125,17 @@ step_good schema last r e kept other taken words may g = by_event e other taken 
   where
     by_event : (e : RoomEvent) → is_tick e ≡ false → is_taken e ≡ true → is_worded_event e ≡ true → Placed (room_step r e).0 → Within (room_step r e).0.seats → GoodRoom schema last (room_step r e).0
     by_event (event.Reserve session lapse) other taken words placed within = stays_good schema last r _ g placed within (record { schema = refl; state = refl; shared = refl })
-    by_event (event.Enter session token fresh) other taken words placed within = stays_good schema last r _ g placed within (same_entered r session token fresh g.placed)
-    by_event (event.Frame session bytes) other taken words placed within = stays_good schema last r _ g placed within (same_framed r session bytes taken)
+    by_event (event.Enter session token fresh) other taken words placed within = stays_good schema last r _ g placed within (same_entered r session token fresh)
+    by_event (event.Frame session bytes) other taken words placed within = stays_good schema last r _ g placed within (same_framed r session bytes)
+    by_event (event.Lost session now) other taken words placed within = stays_good schema last r _ g placed within (same_lost r session now)
+    by_event (event.Moment now) other taken words placed within = stays_good schema last r _ g placed within (same_lapsed r now)
     by_event (event.Act (act.State c)) other taken words placed within =
         answered_good schema last r c (do_command r.schema r.state c) kept words g (ap (λ s. do_command s r.state c) (sym g.schema_is)) placed within
     by_event (event.Act (act.ViewAdd id pair)) other taken words placed within = stays_good schema last r _ g placed within (same_acted r id (option_map (view_added_to r.schema r.state.rows pair) (session_of r.sessions id)))
     by_event (event.Act (act.ViewDel id pair)) other taken words placed within = stays_good schema last r _ g placed within (same_acted r id (option_map (view_removed_from r.schema r.state.rows pair) (session_of r.sessions id)))
+    by_event (event.Act (act.Kick id code)) other taken words placed within = stays_good schema last r _ g placed within (same_kicked r id code)
+    by_event (event.Act act.Lock) other taken words placed within = stays_good schema last r _ g placed within (record { schema = refl; state = refl; shared = refl })
+    by_event (event.Act act.Unlock) other taken words placed within = stays_good schema last r _ g placed within (record { schema = refl; state = refl; shared = refl })
+    by_event (event.Act (act.Keep id ms)) other taken words placed within = stays_good schema last r _ g placed within (same_acted r id (option_map (keep_set ms) (session_of r.sessions id)))
     by_event event.Tick other taken words placed within = cc
     by_event e other taken words placed within = cc

@@ -49,7 +49,7 @@ good_keeps schema def x g within = record {
 }
 
 -- its room is the one after the events
-run_room : (x : RoomRun) (events : List RoomEvent) → (fold run_step x events).room ≡ room_after x.room events
+pub run_room : (x : RoomRun) (events : List RoomEvent) → (fold run_step x events).room ≡ room_after x.room events
 run_room x [] = refl
 run_room x (e ∷ es) = run_room (run_step x e) es
 

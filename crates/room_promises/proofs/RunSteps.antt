@@ -17,7 +17,8 @@ use Rattle.room_model.specs.declared.event.Act.TheVariants as act
 use Rattle.room_model.specs.declared.event.RoomEvent.{RoomEvent}
 use Rattle.room_model.specs.declared.event.RoomEvent.TheVariants as event
 use Rattle.room_model.specs.declared.event.Stage.TheVariants.{Reserved}
-use Rattle.room_model.specs.Sessions.{Session, session_of, view_added_to, view_removed_from}
+use Rattle.room_model.specs.Ledger.{set_locked}
+use Rattle.room_model.specs.Sessions.{Session, session_of, view_added_to, view_removed_from, keep_set}
 use Rattle.room_model.specs.Room.{RoomValue, room_step}
 use Rattle.room_laws.specs.Places.{may_happen, may_follow}
 use Rattle.room_laws.proofs.SessionLists.{named_more}
@@ -25,8 +26,11 @@ use Rattle.room_like.specs.Taken.{is_taken, is_worded_event}
 use Rattle.room_promises.specs.RoomLives.{RoomLife, RoomRun, is_in, room_entries, given_by, view_after, lived, new_life, begun, run_step}
 use Rattle.room_promises.proofs.GoodLives.{GoesOn, GoodLife, good_life, with_more}
 use Rattle.room_promises.proofs.Openings.{enter_on}
-use Rattle.room_promises.proofs.Frames.{frame_on}
-use Rattle.room_promises.proofs.Edits.{edit_on, added_edits, removed_edits, command_on, reserve_on}
+use Rattle.room_promises.proofs.Frames.{taken_on}
+use Rattle.room_promises.proofs.Losses.{loss_on}
+use Rattle.room_promises.proofs.Lapses.{moment_on}
+use Rattle.room_promises.proofs.Kicks.{kick_on}
+use Rattle.room_promises.proofs.Edits.{edit_on, added_edits, removed_edits, keep_edits, command_on, seats_on, reserve_on}
 use Rattle.room_promises.proofs.TickFits.{TickDecodes}
 use Rattle.room_promises.proofs.TickSteps.{tick_on}
 use Rattle.room_promises.proofs.TickBytes.{tick_decodes}
@@ -46,17 +50,18 @@ stepped r e l = with_more l (is_in (room_step r e).0 l.session) (room_entries r 
 
 -- one that has ended stays as it is
 life_lived : (schema : Schema) (rows next : List RowEntry) (r : RoomValue) (e : RoomEvent) (l : RoomLife) → GoodLife schema rows r.sessions l
-    → (GoesOn schema rows r.sessions l → GoesOn schema next (room_step r e).0.sessions (stepped r e l)) → GoodLife schema next (room_step r e).0.sessions (lived r e (room_step r e) l)
+    → (GoesOn schema rows r.sessions l → GoodLife schema next (room_step r e).0.sessions (stepped r e l)) → GoodLife schema next (room_step r e).0.sessions (lived r e (room_step r e) l)
 life_lived schema rows next r e l g steps = go l.lasts refl
   where
     go : (b : Bool) → l.lasts ≡ b → GoodLife schema next (room_step r e).0.sessions (cond b (stepped r e l) l)
-    go true is = good_life schema next (room_step r e).0.sessions (stepped r e l) (steps (g.goes_on is))
+    go true is = steps (g.goes_on is)
     go false is = record { equal = g.equal; goes_on = λ h. absurd (cc) }
 
 -- a life behind a tick
 life_ticked : (schema : Schema) (last : State) (r : RoomValue) (l : RoomLife) → is_kept schema ≡ true → GoodRoom schema last r → GoodLife schema last.rows r.sessions l
     → GoodLife schema (swept r.state).rows (room_step r event.Tick).0.sessions (lived r event.Tick (room_step r event.Tick) l)
-life_ticked schema last r l kept room g = life_lived schema last.rows (swept r.state).rows r event.Tick l g steps
+life_ticked schema last r l kept room g =
+    life_lived schema last.rows (swept r.state).rows r event.Tick l g (λ on. good_life schema (swept r.state).rows (room_step r event.Tick).0.sessions (stepped r event.Tick l) (steps on))
   where
     -- of the room's own schema
     own : GoesOn r.schema last.rows r.sessions l → GoesOn r.schema (swept r.state).rows (room_step r event.Tick).0.sessions (stepped r event.Tick l)
@@ -70,15 +75,24 @@ life_ticked schema last r l kept room g = life_lived schema last.rows (swept r.s
 -- and behind any other event
 life_stepped : (schema : Schema) (last : State) (r : RoomValue) (e : RoomEvent) (l : RoomLife) → is_tick e ≡ false → is_taken e ≡ true → GoodRoom schema last r → GoodLife schema last.rows r.sessions l
     → GoodLife schema last.rows (room_step r e).0.sessions (lived r e (room_step r e) l)
-life_stepped schema last r e l other taken room g = life_lived schema last.rows last.rows r e l g (by_event e other taken)
+life_stepped schema last r e l other taken room g = life_lived schema last.rows last.rows r e l g (λ on. by_event e other taken on)
   where
-    by_event : (e : RoomEvent) → is_tick e ≡ false → is_taken e ≡ true → GoesOn schema last.rows r.sessions l → GoesOn schema last.rows (room_step r e).0.sessions (stepped r e l)
-    by_event (event.Reserve session lapse) other taken on = reserve_on schema last.rows r l on session lapse
-    by_event (event.Enter session token fresh) other taken on = enter_on schema last.rows r l on session token fresh room.placed
-    by_event (event.Frame session bytes) other taken on = frame_on schema last.rows r l on session bytes taken
-    by_event (event.Act (act.State c)) other taken on = command_on schema last.rows r l on (do_command r.schema r.state c)
-    by_event (event.Act (act.ViewAdd id pair)) other taken on = edit_on schema last.rows r l on id (view_added_to r.schema r.state.rows pair) (added_edits r.schema r.state.rows pair)
-    by_event (event.Act (act.ViewDel id pair)) other taken on = edit_on schema last.rows r l on id (view_removed_from r.schema r.state.rows pair) (removed_edits r.schema r.state.rows pair)
+    goes_good : (e : RoomEvent) → GoesOn schema last.rows (room_step r e).0.sessions (stepped r e l) → GoodLife schema last.rows (room_step r e).0.sessions (stepped r e l)
+    goes_good e on = good_life schema last.rows (room_step r e).0.sessions (stepped r e l) on
+
+    by_event : (e : RoomEvent) → is_tick e ≡ false → is_taken e ≡ true → GoesOn schema last.rows r.sessions l → GoodLife schema last.rows (room_step r e).0.sessions (stepped r e l)
+    by_event (event.Reserve session lapse) other taken on = goes_good (event.Reserve session lapse) (reserve_on schema last.rows r l on session lapse)
+    by_event (event.Enter session token fresh) other taken on = goes_good (event.Enter session token fresh) (enter_on schema last.rows r l on session token fresh room.placed)
+    by_event (event.Frame session bytes) other taken on = taken_on schema last.rows r l on session bytes taken
+    by_event (event.Lost session now) other taken on = loss_on schema last.rows r l on session now
+    by_event (event.Moment now) other taken on = moment_on schema last.rows r l on now
+    by_event (event.Act (act.State c)) other taken on = goes_good (event.Act (act.State c)) (command_on schema last.rows r l on (do_command r.schema r.state c))
+    by_event (event.Act (act.ViewAdd id pair)) other taken on = goes_good (event.Act (act.ViewAdd id pair)) (edit_on schema last.rows r l on id (view_added_to r.schema r.state.rows pair) (added_edits r.schema r.state.rows pair))
+    by_event (event.Act (act.ViewDel id pair)) other taken on = goes_good (event.Act (act.ViewDel id pair)) (edit_on schema last.rows r l on id (view_removed_from r.schema r.state.rows pair) (removed_edits r.schema r.state.rows pair))
+    by_event (event.Act (act.Kick id code)) other taken on = kick_on schema last.rows r l on id code
+    by_event (event.Act act.Lock) other taken on = goes_good (event.Act act.Lock) (seats_on schema last.rows r l on (set_locked r.seats true))
+    by_event (event.Act act.Unlock) other taken on = goes_good (event.Act act.Unlock) (seats_on schema last.rows r l on (set_locked r.seats false))
+    by_event (event.Act (act.Keep id ms)) other taken on = goes_good (event.Act (act.Keep id ms)) (edit_on schema last.rows r l on id (keep_set ms) (keep_edits ms))
     by_event event.Tick other taken on = cc
     by_event e other taken on = cc
 

@@ -35,19 +35,32 @@ ticked_now Live rows s = refl
 ticked_now Kept rows s = refl
 
 -- the rows of a tick
-abbrev ticked_rows : RoomValue → List RowEntry
+abbrev pub ticked_rows : RoomValue → List RowEntry
 ticked_rows r = (swept r.state).rows
 
 -- what a session sees at a tick, and the session behind it
-abbrev sees_now : RoomValue → Session → List RowEntry
+abbrev pub sees_now : RoomValue → Session → List RowEntry
 sees_now r t = permitted r.schema (ticked_rows r) t.members.now
 
 abbrev ticks : RoomValue → Session → Session
 ticks r t = ticked_at t.stage (sees_now r t) t
 
 -- the frames of a session
-abbrev frames_now : RoomValue → List RowEntry → Session → List (List ℕ)
+abbrev pub frames_now : RoomValue → List RowEntry → Session → List (List ℕ)
 frames_now r shared0 t = frames_at t.stage r.schema shared0 (shared r.schema (ticked_rows r)) (sees_now r t) t
+
+-- its session swept
+abbrev pub clean_of : RoomValue → Session → Session
+clean_of r s = session_swept (ticked_rows r) s
+
+swept_of : (r : RoomValue) (q : List ℕ) (s : Session) → session_of r.sessions q ≡ Some s → session_of (map (session_swept (ticked_rows r)) r.sessions) q ≡ Some (clean_of r s)
+swept_of r q s there = session_mapped q (session_swept (ticked_rows r)) r.sessions (λ s. refl) ∙ ap (option_map (session_swept (ticked_rows r))) there
+
+-- what a session's connection is given by a tick
+pub tick_given : (r : RoomValue) (q : List ℕ) (s : Session) → AreDistinct r.sessions → session_of r.sessions q ≡ Some s → flat_map (given_by q) (after_tick r).1 ≡ map Frame (frames_now r r.shared (clean_of r s))
+tick_given r q s distinct there =
+    own_frames q (frames_now r r.shared) (map (session_swept (ticked_rows r)) r.sessions) (distinct_mapped (session_swept (ticked_rows r)) r.sessions (λ s. refl) distinct)
+    ∙ ap (λ o. option_map_or (λ (s : Session). map Frame (frames_now r r.shared s)) o []) (swept_of r q s there)
 
 module _ (before : List RowEntry) (r : RoomValue) (l : RoomLife) (g : GoesOn r.schema before r.sessions l) (distinct : AreDistinct r.sessions) (was : r.shared ≡ shared r.schema before)
     (d : TickDecodes r.schema before (swept r.state).rows) where
@@ -56,16 +69,10 @@ module _ (before : List RowEntry) (r : RoomValue) (l : RoomLife) (g : GoesOn r.s
 
   -- its session swept, and behind the tick
   abbrev clean : Session
-  clean = session_swept (ticked_rows r) g.session
-
-  abbrev sessions_swept : List Session
-  sessions_swept = map (session_swept (ticked_rows r)) r.sessions
-
-  swept_there : session_of sessions_swept l.session ≡ Some clean
-  swept_there = session_mapped l.session (session_swept (ticked_rows r)) r.sessions (λ s. refl) ∙ ap (option_map (session_swept (ticked_rows r))) g.there
+  clean = clean_of r g.session
 
   now : session_of after.0.sessions l.session ≡ Some (ticks r clean)
-  now = session_mapped l.session (ticks r) sessions_swept (λ s. ticked_name s.stage (sees_now r s) s) ∙ ap (option_map (ticks r)) swept_there
+  now = session_mapped l.session (ticks r) (map (session_swept (ticked_rows r)) r.sessions) (λ s. ticked_name s.stage (sees_now r s) s) ∙ ap (option_map (ticks r)) (swept_of r l.session g.session g.there)
 
   rows_now : rows_for after.0 l.session ≡ Some (shared r.schema (ticked_rows r), sees_now r clean)
   rows_now =
@@ -76,10 +83,7 @@ module _ (before : List RowEntry) (r : RoomValue) (l : RoomLife) (g : GoesOn r.s
   entries_now = ap₂ (λ o p. cond (is_at sees_ticks o) (tick_entries p) []) g.there rows_now
 
   outs_now : flat_map (given_by l.session) after.1 ≡ map Frame (frames_now r (shared r.schema before) clean)
-  outs_now =
-      own_frames l.session (frames_now r r.shared) sessions_swept (distinct_mapped (session_swept (ticked_rows r)) r.sessions (λ s. refl) distinct)
-      ∙ (ap (λ o. option_map_or (λ (s : Session). map Frame (frames_now r r.shared s)) o []) swept_there
-      ∙ ap (λ sh. map Frame (frames_now r sh clean)) was)
+  outs_now = tick_given r l.session g.session distinct g.there ∙ ap (λ sh. map Frame (frames_now r sh clean)) was
 
   pub tick_on : GoesOn r.schema (swept r.state).rows after.0.sessions (with_more l (is_in after.0 l.session) (room_entries r event.Tick after.0 l.session) (flat_map (given_by l.session) after.1) (view_after event.Tick after.0 l))
   tick_on = record {

@@ -21,7 +21,7 @@ use Rattle.room_promises.specs.RoomLives.{RoomLife, RoomRun, room_run, is_live}
 use Rattle.room_promises.specs.RoomPromises.{CanPlay}
 
 -- `State { round: number, gold: number view }`
-abbrev purse : Schema
+abbrev pub purse : Schema
 purse = record {
   classes = ex.root_class (codes "State") (ex.plain_field (codes "round") (shape.One (item.Scalar kind.Number)) ∷ ex.hidden_field (codes "gold") (shape.One (item.Scalar kind.Number)) ∷ []) ∷ [];
   root = 0;

@@ -1,2 +1,3 @@
 pub mod RoomLives
 pub mod RoomPromises
+pub mod Returns

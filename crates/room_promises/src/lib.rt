@@ -3,4 +3,4 @@
 
 pub mod rooms;
 
-pub use rooms::{equal_records_equal_bytes, rooms_keep};
+pub use rooms::{clients_return, equal_records_equal_bytes, rooms_keep};

@@ -17,7 +17,8 @@ use Rattle.room_model.specs.declared.definition.RoomDef.{RoomDef}
 use Rattle.schema_model.specs.Classes.{Schema}
 use Rattle.text_model.specs.declared.path.Item.{Item}
 use Rattle.text_model.specs.declared.path.Item.TheVariants.{At, Ask, Open, Acknowledge, Put, Tick}
-use Rattle.text_model.specs.Paths.{Path, is_path, first_path, path_schema, number_field, event_of, events_of, is_turn, is_later_turn, is_definition, is_within, IsTextOf}
+use Rattle.text_model.specs.Paths.{Path, is_path, first_path, path_schema, number_field, event_of, events_of, is_turn, is_later_turn, is_definition, IsTextOf}
+use Rattle.text_model.proofs.DefForms.{definition_named}
 use Rattle.text_model.specs.Marks.{is_room_name}
 use Rattle.text_model.proofs.PathForms.{fits_of}
 use Rattle.path_hub.proofs.PathPlays.{path_numbers}
@@ -95,13 +96,7 @@ by_count p is h = ap (λ n. list_all (course.is_turn n p.room) (events p is)) (c
 
 -- a definition has a place at least
 has_place : (d : RoomDef) → is_definition d ≡ true → 1 ≤ d.max
-has_place d h =
-    let filter = and_parts _ _ h in
-    let keep = and_parts _ _ filter.0 in
-    let patch = and_parts _ _ keep.0 in
-    let seat = and_parts _ _ patch.0 in
-    let max = and_parts (is_room_name d.name) (is_within 1 64 d.max) seat.0 in
-    leb-true 1 d.max (and_parts _ _ max.1).0
+has_place d h = leb-true 1 d.max (and_parts _ _ (definition_named d h).within.max).0
 
 path_course : (p : Path) → is_path p ≡ true → IsCourse (path_schema (first_path p)) (course_of p)
 path_course p h =

@@ -10,7 +10,9 @@ use Rattle.lists.proofs.SameBytes.{same_bytes}
 use Rattle.room_model.specs.declared.seat.Seat.{Seat}
 use Rattle.room_model.specs.declared.seat.Seat.TheVariants.{Reserved}
 use Rattle.room_model.specs.declared.seat.SeatEntry.{SeatEntry}
-use Rattle.room_model.specs.Ledger.{first_due, lapse_of, has_as_token, is_kept_by}
+use Rattle.room_model.specs.Seats.{Seats}
+use Rattle.room_model.specs.Ledger.{expired, first_due, lapse_of, has_as_token, is_kept_by}
+use Rattle.seat_ledger.specs.Calls.{LapsesAt}
 use Rattle.seat_ledger.specs.Slots.{comes_before, IndexState, has_slot, is_key, one_of}
 use Rattle.seat_ledger.specs.Keys.{id_number, IsId, HasIdAsToken, AreIds, token_key, by_session, by_token, by_lapse}
 use Rattle.seat_ledger.specs.Held.{holds, passes, IsOnce}
@@ -90,6 +92,13 @@ later_is now key at es l least = ap first_due (none_due now es (λ q p h. (let n
 
 pub no_lapse_is : (now : ℕ) (es : List SeatEntry) → ((q p : ℕ) → holds by_lapse es q p ≡ false) → IsDuePlace now es None
 no_lapse_is now es none = ap first_due (none_due now es (λ q p h. absurd (let no : (let t : Bool = true in t) ≡ false = sym h ∙ none q p in cc)))
+
+-- where the first entry stands that lapses by a moment, expiring takes it
+pub lapses_at : (now : ℕ) (s : Seats) (o : Option ℕ) → IsDuePlace now s.entries o → LapsesAt now s o
+lapses_at now s None h = ap (expired s) h
+lapses_at now s (Some at) h =
+    let found = get_some s.entries at h.0 in
+    (found.0, found.1, ap (expired s) (h.1 found.0 found.1).1)
 
 -- what a read of an element gives
 pub there_is : {X : Type 0} (es : List X) (at : ℕ) (e : X) → at < length es → e ≡ get_or es at e → slice_get es at ≡ Some e

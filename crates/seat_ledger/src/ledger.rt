@@ -3,7 +3,7 @@ ghost use Rattle.std.specs.Prelude.{◌≡◌, ◌≤◌, IfOk};
 ghost use Rattle.room_model.specs.Ledger as ledger;
 ghost use Rattle.room_model.specs.Limits.{most_places};
 ghost use Rattle.room_model.specs.Seats.{in_use, new_seats, seat_of};
-ghost use Rattle.seat_ledger.specs.Calls.{Does, Expires};
+ghost use Rattle.seat_ledger.specs.Calls.{Does, Expires, LapsesAt, StandsAt};
 ghost use Rattle.seat_ledger.specs.Places.{IsPlaceOf};
 
 use crate::places::Places;
@@ -136,6 +136,13 @@ impl SeatLedger {
         Some(session)
     }
 
+    /// Where the entry stands that `expire` takes out; `None` where it takes none.
+    pub fn due(&self, now: u64) -> Option<u32>
+        ensures { LapsesAt now self.now result }
+    {
+        self.places.first_due(now)
+    }
+
     /// Sets the mark that an act locked the places.
     pub fn set_locked(&mut self, on: bool)
         ensures { self.new ≡ ledger.set_locked self.old on }
@@ -171,6 +178,13 @@ impl SeatLedger {
     {
         let at = self.places.place_of(session)?;
         Some(self.places.entry(at).seat)
+    }
+
+    /// Where the entry of a session stands in the order of reserving; `None` where it has none.
+    pub fn place_of(&self, session: Id) -> Option<u32>
+        ensures { StandsAt session self.now.entries result }
+    {
+        self.places.place_of(session)
     }
 
     /// The session whose kept seat has this token.

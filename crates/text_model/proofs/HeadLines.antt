@@ -9,7 +9,9 @@ use Rattle.text_model.specs.declared.path.Stage.{Stage}
 use Rattle.text_model.specs.declared.path.Stage.TheVariants as stage
 use Rattle.text_model.specs.Decimals.{decimal_within}
 use Rattle.text_model.specs.Marks.{is_class_name, is_field_name, is_id, is_room_name}
-use Rattle.text_model.specs.Paths.{field_words, def_words, is_definition, is_within}
+use Rattle.room_model.specs.Definitions.{is_within}
+use Rattle.text_model.specs.Paths.{field_words, def_words, is_definition}
+use Rattle.text_model.proofs.DefForms.{unfiltered_def}
 use Rattle.text_model.specs.Readings.{is_word, class_line, field_line, root_line, process_line, room_line, events_line, with_class, with_field, with_process, with_def, read_def, no_def, blank_id, blank_reader}
 use Rattle.text_model.proofs.DecimalLaw.{chosen, decimal_read_within}
 use Rattle.text_model.proofs.Runs.{reader_at}
@@ -138,7 +140,7 @@ room_told p o (w ∷ name ∷ wn ∷ n ∷ ws ∷ seat ∷ wp ∷ patch ∷ wk �
     record {
       def = record { name = name; max = d.0; seat = d.1; patch = d.2; keep = d.3; filter = [] };
       words = λ k. word_is (codes "room") w f.0 k ∷ name ∷ word_is (codes "max") wn f.1 k ∷ rn.0 k ∷ word_is (codes "seat") ws e.1 k ∷ rs.0 k ∷ word_is (codes "patch") wp c.1 k ∷ rp.0 k ∷ word_is (codes "keep") wk b.1 k ∷ rk.0 k ∷ [];
-      fit = and_from _ _ (and_from _ _ (and_from _ _ (and_from _ _ (and_from _ _ a.1 (within 1 64 d.0 rn.1 rn.2)) (within 1 3600000 d.1 rs.1 rs.2)) (within 1 3600000 d.2 rp.1 rp.2)) (within 0 3600000 d.3 rk.1 rk.2)) refl;
+      fit = unfiltered_def name d.0 d.1 d.2 d.3 a.1 (within 1 64 d.0 rn.1 rn.2) (within 1 3600000 d.1 rs.1 rs.2) (within 1 3600000 d.2 rp.1 rp.2) (within 0 3600000 d.3 rk.1 rk.2);
       after = after_def p o (record { name = name; max = d.0; seat = d.1; patch = d.2; keep = d.3; filter = [] }) m.0 q d.8 m.3;
     }
 room_told p o _ q h = absurd (cc)

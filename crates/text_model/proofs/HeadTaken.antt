@@ -1,5 +1,5 @@
 -- The lines before a schedule's events are taken one after another.
-use Rattle.std.proofs.Common.{◌≡◌, ℕ, ◌<◌, ◌≤◌, true, not, ◌&&◌, cond, List, [], ◌∷◌, ◌++◌, map, length, Some, None, refl, sym, ap, ◌∙◌, subst, arith, eqb, eqb-true, leb, leb-true, lt-ltb, option_map, codes, bytes_eq, append_assoc, append-nil, length-append}
+use Rattle.std.proofs.Common.{◌≡◌, ℕ, ◌<◌, ◌≤◌, true, not, cond, List, [], ◌∷◌, ◌++◌, map, length, Some, None, refl, sym, ap, ◌∙◌, subst, arith, eqb-true, leb, leb-true, lt-ltb, option_map, codes, bytes_eq, append_assoc, append-nil, length-append}
 use Rattle.std.specs.List.{list_all, list_any}
 use Rattle.std.specs.Fmt.{decimal}
 use Rattle.std.proofs.lemmas.List.{nil_from_length}
@@ -10,8 +10,10 @@ use Rattle.room_model.specs.declared.definition.RoomDef.{RoomDef}
 use Rattle.text_model.specs.declared.path.FirstPath.{FirstPath}
 use Rattle.text_model.specs.declared.path.Stage.TheVariants as stage
 use Rattle.text_model.specs.Decimals.{decimal_within}
-use Rattle.text_model.specs.Marks.{is_class_name, is_field_name, is_id, is_room_name}
-use Rattle.text_model.specs.Paths.{field_words, def_words, is_definition, is_within}
+use Rattle.text_model.specs.Marks.{is_class_name, is_field_name, is_id}
+use Rattle.room_model.specs.Definitions.{is_within}
+use Rattle.text_model.specs.Paths.{field_words, def_words, is_definition}
+use Rattle.text_model.proofs.DefForms.{definition_named}
 use Rattle.text_model.specs.Readings.{class_line, root_line, field_line, process_line, room_line, with_class, with_field, with_process, with_def, read_def, no_def, blank_id, blank_reader}
 use Rattle.text_model.proofs.DecimalLaw.{read_decimal_within}
 use Rattle.text_model.proofs.Runs.{reader_at, run}
@@ -60,14 +62,11 @@ number_taken low high n top h =
 
 room_taken : (p : FirstPath) (o : ℕ) (d : RoomDef) → is_definition d ≡ true → room_line (reader_at stage.Room p o) (def_words d) ≡ Some (reader_at stage.Events (record p { def = d }) o)
 room_taken p o d h =
-    let a = and_parts (is_room_name d.name && is_within 1 64 d.max && is_within 1 3600000 d.seat && is_within 1 3600000 d.patch && is_within 0 3600000 d.keep) (eqb (length d.filter) 0) h in
-    let b = and_parts (is_room_name d.name && is_within 1 64 d.max && is_within 1 3600000 d.seat && is_within 1 3600000 d.patch) (is_within 0 3600000 d.keep) a.0 in
-    let c = and_parts (is_room_name d.name && is_within 1 64 d.max && is_within 1 3600000 d.seat) (is_within 1 3600000 d.patch) b.0 in
-    let e = and_parts (is_room_name d.name && is_within 1 64 d.max) (is_within 1 3600000 d.seat) c.0 in
-    let f = and_parts (is_room_name d.name) (is_within 1 64 d.max) e.0 in
-    let unfiltered : [] ≡ d.filter = sym (nil_from_length d.filter (eqb-true (length d.filter) 0 a.1)) in
-    ap (λ t. cond t (option_map (λ x. with_def x (reader_at stage.Room p o)) (read_def d.name (decimal_within 1 64 (decimal d.max)) (decimal_within 1 3600000 (decimal d.seat)) (decimal_within 1 3600000 (decimal d.patch)) (decimal_within 0 3600000 (decimal d.keep)))) None) f.0
-    ∙ ((λ k. option_map (λ x. with_def x (reader_at stage.Room p o)) (read_def d.name (number_taken 1 64 d.max (omega arith) f.1 k) (number_taken 1 3600000 d.seat (omega arith) e.1 k) (number_taken 1 3600000 d.patch (omega arith) c.1 k) (number_taken 0 3600000 d.keep (omega arith) b.1 k)))
+    let named = definition_named d h in
+    let fit = named.within in
+    let unfiltered : [] ≡ d.filter = sym (nil_from_length d.filter (eqb-true (length d.filter) 0 named.unfiltered)) in
+    ap (λ t. cond t (option_map (λ x. with_def x (reader_at stage.Room p o)) (read_def d.name (decimal_within 1 64 (decimal d.max)) (decimal_within 1 3600000 (decimal d.seat)) (decimal_within 1 3600000 (decimal d.patch)) (decimal_within 0 3600000 (decimal d.keep)))) None) named.name
+    ∙ ((λ k. option_map (λ x. with_def x (reader_at stage.Room p o)) (read_def d.name (number_taken 1 64 d.max (omega arith) fit.max k) (number_taken 1 3600000 d.seat (omega arith) fit.seat k) (number_taken 1 3600000 d.patch (omega arith) fit.patch k) (number_taken 0 3600000 d.keep (omega arith) fit.keep k)))
     ∙ ap (λ l. Some (reader_at stage.Events (record p { def = record d { filter = l } }) o)) unfiltered)
 
 -- ---- the heading

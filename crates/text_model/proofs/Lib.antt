@@ -6,6 +6,7 @@ pub mod TurnLines
 pub mod EventLines
 pub mod EventsRead
 pub mod Keys
+pub mod DefForms
 pub mod HeadLines
 pub mod HeadRead
 pub mod PathForms

@@ -4,7 +4,8 @@ use Rattle.std.specs.List.{list_all}
 use Rattle.std.proofs.lemmas.Bool.{and_parts, and_from}
 use Rattle.state_model.specs.Sound.{keys_differ}
 use Rattle.text_model.specs.Marks.{is_class_name, is_field_name, is_id}
-use Rattle.text_model.specs.Paths.{Path, is_definition, is_within, is_turn, is_later_turn, is_path}
+use Rattle.room_model.specs.Definitions.{is_within}
+use Rattle.text_model.specs.Paths.{Path, is_definition, is_turn, is_later_turn, is_path}
 
 -- the parts of a schedule are of their forms
 pub record Fits (p : Path) : Type 0 where

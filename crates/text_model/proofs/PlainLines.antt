@@ -1,5 +1,5 @@
 -- The words of a schedule hold no space and no LF, so that its lines are cut where they were joined.
-use Rattle.std.proofs.Common.{◌≡◌, ℕ, ◌^◌, ◌<◌, ◌≤◌, Bool, true, false, not, ◌&&◌, List, [], ◌∷◌, ◌++◌, map, length, refl, sym, ◌∙◌, arith, eqb, leb, leb-true, leb-false, ltb, ltb-true, codes}
+use Rattle.std.proofs.Common.{◌≡◌, ℕ, ◌^◌, ◌<◌, ◌≤◌, Bool, true, false, not, ◌&&◌, List, [], ◌∷◌, ◌++◌, map, refl, sym, ◌∙◌, arith, leb, leb-true, leb-false, ltb, ltb-true, codes}
 use Rattle.std.specs.List.{list_all}
 use Rattle.std.specs.Fmt.{decimal}
 use Rattle.std.proofs.lemmas.Bool.{and_parts, and_from, true≢false, agree_below_at}
@@ -9,7 +9,9 @@ use Rattle.text_model.specs.declared.path.Item.{Item}
 use Rattle.text_model.specs.declared.path.Item.TheVariants.{At, Ask, Open, Acknowledge, Put, Tick}
 use Rattle.text_model.specs.declared.path.FirstPath.{FirstPath}
 use Rattle.text_model.specs.Marks.{is_name_byte, is_id_byte, has_name_length, is_one_of, kind_words, shape_words, is_class_name, is_field_name, is_id, is_room_name}
-use Rattle.text_model.specs.Paths.{field_words, def_words, item_words, is_definition, is_within, is_later_turn}
+use Rattle.text_model.specs.Paths.{field_words, def_words, item_words, is_definition, is_later_turn}
+use Rattle.room_model.specs.Definitions.{is_within}
+use Rattle.text_model.proofs.DefForms.{definition_named}
 use Rattle.text_model.proofs.Spaced.{is_plain, is_line, all_pass, all_append}
 use Rattle.text_model.proofs.DecimalLaw.{decimal_plain, signed_plain}
 
@@ -57,13 +59,10 @@ number_plain low high n top h = decimal_plain n (omega (arith, leb-true n high (
 
 pub def_plain : (d : RoomDef) → is_definition d ≡ true → (is_plain d.name ≡ true) × (is_line (def_words d) ≡ true)
 def_plain d h =
-    let a = and_parts (is_room_name d.name && is_within 1 64 d.max && is_within 1 3600000 d.seat && is_within 1 3600000 d.patch && is_within 0 3600000 d.keep) (eqb (length d.filter) 0) h in
-    let b = and_parts (is_room_name d.name && is_within 1 64 d.max && is_within 1 3600000 d.seat && is_within 1 3600000 d.patch) (is_within 0 3600000 d.keep) a.0 in
-    let c = and_parts (is_room_name d.name && is_within 1 64 d.max && is_within 1 3600000 d.seat) (is_within 1 3600000 d.patch) b.0 in
-    let e = and_parts (is_room_name d.name && is_within 1 64 d.max) (is_within 1 3600000 d.seat) c.0 in
-    let f = and_parts (is_room_name d.name) (is_within 1 64 d.max) e.0 in
-    let name = room_name_plain d.name f.0 in
-    (name, and_from _ _ name (and_from _ _ (number_plain 1 64 d.max (omega arith) f.1) (and_from _ _ (number_plain 1 3600000 d.seat (omega arith) e.1) (and_from _ _ (number_plain 1 3600000 d.patch (omega arith) c.1) (and_from _ _ (number_plain 0 3600000 d.keep (omega arith) b.1) refl)))))
+    let named = definition_named d h in
+    let fit = named.within in
+    let name = room_name_plain d.name named.name in
+    (name, and_from _ _ name (and_from _ _ (number_plain 1 64 d.max (omega arith) fit.max) (and_from _ _ (number_plain 1 3600000 d.seat (omega arith) fit.seat) (and_from _ _ (number_plain 1 3600000 d.patch (omega arith) fit.patch) (and_from _ _ (number_plain 0 3600000 d.keep (omega arith) fit.keep) refl)))))
 
 -- ---- the events
 

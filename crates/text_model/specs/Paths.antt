@@ -1,9 +1,9 @@
 -- Schedules of one room and one client over a class of numbers: their parts, their one text, their events, and what is printed of them. Ours.
-use Rattle.std.specs.Prelude.{◌≡◌, ℕ, ◌^◌, Bool, true, false, not, ◌&&◌, List, [], ◌∷◌, ◌++◌, length, map, None, nat_lt, nat_le, ◌==◌, codes}
+use Rattle.std.specs.Prelude.{◌≡◌, ℕ, ◌^◌, Bool, true, false, not, ◌&&◌, List, [], ◌∷◌, ◌++◌, length, map, None, nat_lt, ◌==◌, codes}
 use Rattle.std.specs.List.{list_all, flat_map}
 use Rattle.std.specs.Str.{bytes_eq}
 use Rattle.std.specs.Fmt.{decimal}
-use Rattle.room_model.specs.Limits.{most_places, longest_time}
+use Rattle.room_model.specs.Definitions.{is_within, is_room_def}
 use Rattle.schema_model.specs.Classes.{Schema, most_fields}
 use Rattle.schema_model.specs.Fits.{in_signed}
 use Rattle.schema_model.specs.declared.class.FieldDecl.{FieldDecl}
@@ -102,15 +102,9 @@ text_of p = lines (path_lines (first_path p))
 
 -- ---- which parts are such a schedule
 
--- a number is from one to another
-abbrev pub is_within : ℕ → ℕ → ℕ → Bool
-is_within low high n = nat_le low n && nat_le n high
-
--- a definition without filter, within the limits
+-- a definition without filter, of which a room may be made
 abbrev pub is_definition : RoomDef → Bool
-is_definition d =
-    is_room_name d.name && is_within 1 most_places d.max && is_within 1 longest_time d.seat && is_within 1 longest_time d.patch
-    && is_within 0 longest_time d.keep && (length d.filter == 0)
+is_definition d = is_room_name d.name && is_room_def d && (length d.filter == 0)
 
 -- an event that may come between the request and the opening: a put of a number to a field, or a tick
 abbrev pub is_turn : ℕ → Item → Bool

@@ -37,9 +37,12 @@ impl Game {
             max,
             seat: 15_000,
             patch: 50,
-            keep: 0,
+            keep: 20_000,
             filter: one_text(alloc, "mode")?,
         };
+        if !def.is_valid() {
+            return Err(Fail::new("no room is made of it"));
+        }
         let criteria = one_text(alloc, "duel")?;
         Ok(Game {
             room: Room::make(alloc, schema, &def, &criteria)?,
@@ -83,6 +86,8 @@ fn note<L: Ledger>(
 ) -> Result<(), Fail> {
     match event {
         RoomEvent::Reserve(session, _) => {
+            // A life of the same session that has ended is no client any more.
+            clients.retain(|client| client.id != *session);
             clients.push(new_client(alloc, room.state().schema(), *session)?)?
         }
         RoomEvent::Act(Act::ViewAdd(session, pair)) => {

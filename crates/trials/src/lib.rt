@@ -19,6 +19,8 @@ mod rooms;
 #[cfg(test)]
 mod script;
 #[cfg(test)]
+mod seats;
+#[cfg(test)]
 mod table;
 #[cfg(test)]
 mod turns;

@@ -3,6 +3,7 @@ ghost use Rattle.std.specs.Prelude.{◌≡◌, ◌<◌};
 
 use crate::game::Game;
 use crate::script::{add_answer, command_of, lines_of, row_of, schema_of};
+use frame_model::codes::{JOIN_ROOM, LEAVE_ROOM};
 use lists::Memory;
 use room_core::{Act, RoomEvent, RoomOut};
 use schema_model::{Bytes, Id, Pair, Tag};
@@ -31,8 +32,20 @@ fn pair_of(word: &str) -> Result<Pair, Fail> {
     Ok(Pair { who, tag: Tag(-1) })
 }
 
+fn moment_of(word: &str) -> Result<u64, Fail> {
+    Ok(word.parse::<u64>()?)
+}
+
+fn code_of(word: &str) -> Result<u16, Fail> {
+    Ok(word.parse::<u16>()?)
+}
+
+fn frame(alloc: Global, session: Id, code: u8) -> Result<RoomEvent, Memory> {
+    Ok(RoomEvent::Frame(session, Bytes::from_slice(alloc, &[code])?))
+}
+
 fn acknowledge(alloc: Global, session: Id) -> Result<RoomEvent, Memory> {
-    Ok(RoomEvent::Frame(session, Bytes::from_slice(alloc, &[10])?))
+    frame(alloc, session, JOIN_ROOM)
 }
 
 /// A session comes: it is reserved, opened with its own letter for the token, and acknowledged.
@@ -44,8 +57,7 @@ pub fn coming(alloc: Global, session: Id) -> Result<Vec<RoomEvent>, Memory> {
     Ok(events)
 }
 
-// An event: `reserve a`, `open a x` with a letter for the fresh token, `acknowledge a`, `viewadd a 2`, `viewdel a 2`,
-// `tick` or a command.
+// An event: one of those below, or a command.
 fn event_of(alloc: Global, text: &str) -> Result<RoomEvent, Fail> {
     let words: Vec<&str> = text.split(' ').collect(alloc)?;
     match event_in(alloc, &words)? {
@@ -54,32 +66,59 @@ fn event_of(alloc: Global, text: &str) -> Result<RoomEvent, Fail> {
     }
 }
 
-// An event that is no command.
+// An event that is no command: `tick`, `lock`, `unlock`, `moment 100`, `return a x y` with letters for the token and the
+// fresh one, or one of a session.
 fn event_in(alloc: Global, words: &[&str]) -> Result<Option<RoomEvent>, Fail> {
     match *words {
         ["tick"] => Ok(Some(RoomEvent::Tick)),
+        ["lock"] => Ok(Some(RoomEvent::Act(Act::Lock))),
+        ["unlock"] => Ok(Some(RoomEvent::Act(Act::Unlock))),
+        ["moment", now] => Ok(Some(RoomEvent::Moment(moment_of(now)?))),
+        ["return", session, token, fresh] => returning(session, token, fresh),
         [verb, session] => session_event(alloc, verb, session),
         [verb, session, other] => session_event_with(verb, session, other),
         _ => Ok(None),
     }
 }
 
+fn returning(session: &str, token: &str, fresh: &str) -> Result<Option<RoomEvent>, Fail> {
+    let token = Some(id_of(token)?);
+    Ok(Some(RoomEvent::Enter(id_of(session)?, token, id_of(fresh)?)))
+}
+
+// An event of a session: `reserve a`, `acknowledge a`, `leave a`.
 fn session_event(alloc: Global, verb: &str, session: &str) -> Result<Option<RoomEvent>, Fail> {
     match verb {
         "reserve" => Ok(Some(RoomEvent::Reserve(id_of(session)?, 15_000))),
         "acknowledge" => Ok(Some(acknowledge(alloc, id_of(session)?)?)),
+        "leave" => Ok(Some(frame(alloc, id_of(session)?, LEAVE_ROOM)?)),
         _ => Ok(None),
     }
 }
 
-// An event of a session with a token, or a row that it looks at.
+// An event of a session with a moment, a token or a row: `reserve a 100` with the lapse, `lose a 100`, `open a x` with a
+// letter for the fresh token, and acts.
 fn session_event_with(verb: &str, session: &str, other: &str) -> Result<Option<RoomEvent>, Fail> {
     match verb {
+        "reserve" => Ok(Some(RoomEvent::Reserve(id_of(session)?, moment_of(other)?))),
+        "lose" => Ok(Some(RoomEvent::Lost(id_of(session)?, moment_of(other)?))),
         "open" => Ok(Some(RoomEvent::Enter(id_of(session)?, None, id_of(other)?))),
-        "viewadd" => Ok(Some(RoomEvent::Act(Act::ViewAdd(id_of(session)?, pair_of(other)?)))),
-        "viewdel" => Ok(Some(RoomEvent::Act(Act::ViewDel(id_of(session)?, pair_of(other)?)))),
-        _ => Ok(None),
+        _ => match act_with(verb, session, other)? {
+            Some(act) => Ok(Some(RoomEvent::Act(act))),
+            None => Ok(None),
+        },
     }
+}
+
+// An act on a session: `viewadd a 2`, `viewdel a 2`, `kick a 4001`, `keep a 100`.
+fn act_with(verb: &str, session: &str, other: &str) -> Result<Option<Act>, Fail> {
+    Ok(match verb {
+        "viewadd" => Some(Act::ViewAdd(id_of(session)?, pair_of(other)?)),
+        "viewdel" => Some(Act::ViewDel(id_of(session)?, pair_of(other)?)),
+        "kick" => Some(Act::Kick(id_of(session)?, code_of(other)?)),
+        "keep" => Some(Act::Keep(id_of(session)?, moment_of(other)?)),
+        _ => None,
+    })
 }
 
 // The events of a line: `come a`, or several events.
@@ -104,7 +143,11 @@ fn told_out(alloc: Global, out: &RoomOut) -> Result<String, Fail> {
             let hex = hex::encode(alloc, bytes.as_slice())?;
             format!(in alloc; "{} {hex}", letter(*session))?
         }
+        RoomOut::Close(session, code) => format!(in alloc; "{} closed {code}", letter(*session))?,
         RoomOut::Entered(session) => format!(in alloc; "{} entered", letter(*session))?,
+        RoomOut::Back(session) => format!(in alloc; "{} back", letter(*session))?,
+        RoomOut::Dropped(session) => format!(in alloc; "{} dropped", letter(*session))?,
+        RoomOut::Left(session) => format!(in alloc; "{} left", letter(*session))?,
         RoomOut::NoSeat(session) => format!(in alloc; "{} has no seat", letter(*session))?,
         RoomOut::TokenInUse(session) => format!(in alloc; "{}: token in use", letter(*session))?,
         RoomOut::Made(number) => format!(in alloc; "made {}", number.0)?,
@@ -113,7 +156,7 @@ fn told_out(alloc: Global, out: &RoomOut) -> Result<String, Fail> {
     })
 }
 
-// What the room gives at a line.
+// What the room gives at a line, or that it doesn't take it.
 fn given<L: Ledger>(
     rt: &impl Abort,
     alloc: Global,
@@ -123,6 +166,10 @@ fn given<L: Ledger>(
 ) -> Result<String, Fail> {
     let mut answers = String::new(alloc);
     for event in &events_of(alloc, line)? {
+        if !game.room.takes(event) {
+            add_answer(&mut answers, "not taken")?;
+            continue;
+        }
         for out in game.give(rt, alloc, event, steps)?.as_slice() {
             add_answer(&mut answers, &told_out(alloc, out)?)?;
         }
@@ -151,7 +198,18 @@ fn play_all<L: Ledger>(
 
 /// A room of four places gives what a script says.
 pub fn play(rt: &impl Abort, alloc: Global, schema: &str, script: &str) -> Result<(), Fail> {
-    let mut game = Game::new(alloc, &schema_of(alloc, schema)?, 4)?;
+    play_in(rt, alloc, schema, 4, script)
+}
+
+/// A room of so many places does. It keeps seats for 20 seconds.
+pub fn play_in(
+    rt: &impl Abort,
+    alloc: Global,
+    schema: &str,
+    max: u32,
+    script: &str,
+) -> Result<(), Fail> {
+    let mut game = Game::new(alloc, &schema_of(alloc, schema)?, max)?;
     let lines = lines_of(alloc, script)?;
     play_all::<Brand>(rt, alloc, &mut game, &lines, Blank::new(1))
 }

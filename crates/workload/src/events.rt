@@ -1,6 +1,7 @@
 //! Events of a room that clients watch, one behind another.
 use crate::commands::{self, put, random_put};
 use crate::game::player;
+use frame_model::codes::JOIN_ROOM;
 use lists::Memory;
 use rand_pcg::Pcg32;
 use room_core::{Act, RoomEvent};
@@ -75,8 +76,43 @@ fn session(client: u8) -> Id {
 fn add_client(alloc: Global, events: &mut Vec<RoomEvent>, client: u8) -> Result<(), Memory> {
     let session = session(client);
     events.push(RoomEvent::Reserve(session, 0))?;
-    events.push(RoomEvent::Enter(session, None, session))?;
-    events.push(RoomEvent::Frame(session, Bytes::from_slice(alloc, &[10])?))?;
+    events.push(RoomEvent::Enter(session, None, token(client, 0)))?;
+    events.push(acknowledgement(alloc, session)?)?;
+    Ok(())
+}
+
+fn acknowledgement(alloc: Global, session: Id) -> Result<RoomEvent, Memory> {
+    Ok(RoomEvent::Frame(session, Bytes::from_slice(alloc, &[JOIN_ROOM])?))
+}
+
+// The token of a client that came back so often.
+fn token(client: u8, time: u32) -> Id {
+    let [a, b, c, d] = time.to_le_bytes();
+    Id([client, a, b, c, d, 1, 1, 1, 1])
+}
+
+/// All clients lose their connections and come back, for this time counted from 0, and there is a tick.
+pub fn returned(alloc: Global, crowd: Crowd, time: u32) -> Result<Vec<RoomEvent>, Memory> {
+    let mut events = Vec::new(alloc);
+    for client in 0..crowd.clients {
+        events.push(RoomEvent::Lost(session(client), u64::from(time)))?;
+    }
+    for client in 0..crowd.clients {
+        add_return(alloc, &mut events, client, time)?;
+    }
+    events.push(RoomEvent::Tick)?;
+    Ok(events)
+}
+
+fn add_return(
+    alloc: Global,
+    events: &mut Vec<RoomEvent>,
+    client: u8,
+    time: u32,
+) -> Result<(), Memory> {
+    let (old, fresh) = (token(client, time), token(client, time.wrapping_add(1)));
+    events.push(RoomEvent::Enter(session(client), Some(old), fresh))?;
+    events.push(acknowledgement(alloc, session(client))?)?;
     Ok(())
 }
 

@@ -1,6 +1,7 @@
 //! Why work gives no sum.
 use lists::Memory;
 use patch_decoder::OpFault;
+use room_model::SeatFault;
 use schema_reader::SchemaFault;
 use state_model::TableFault;
 use thiserror::Error;
@@ -34,6 +35,12 @@ impl WorkFault {
 impl From<TableFault> for WorkFault {
     fn from(fault: TableFault) -> Self {
         WorkFault::of(matches!(fault, TableFault::Memory))
+    }
+}
+
+impl From<SeatFault> for WorkFault {
+    fn from(_: SeatFault) -> Self {
+        WorkFault::Refused
     }
 }
 

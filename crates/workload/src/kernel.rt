@@ -3,7 +3,7 @@ use crate::commands::Script;
 use crate::events::Crowd;
 use crate::fault::WorkFault;
 use crate::part::Part;
-use crate::{decoding, schemas, tables, views};
+use crate::{decoding, schemas, seats, tables, views};
 use std::alloc::Global;
 
 // Clients who look around.
@@ -35,10 +35,14 @@ pub enum Kernel {
     /// The ticks of a room with 8 clients, or with 64.
     ViewsFew,
     ViewsMany,
+    /// The places of a room.
+    Ledger,
+    /// Clients that drop and come back.
+    Returns,
 }
 
 // Each with its name.
-const KERNELS: [(&str, Kernel); 16] = [
+const KERNELS: [(&str, Kernel); 18] = [
     ("things", Kernel::Commands(Script::Things)),
     ("players", Kernel::Commands(Script::Players)),
     ("numbers_back", Kernel::Commands(Script::NumbersBack)),
@@ -55,6 +59,8 @@ const KERNELS: [(&str, Kernel); 16] = [
     ("read_schema", Kernel::ReadSchema),
     ("views_few", Kernel::ViewsFew),
     ("views_many", Kernel::ViewsMany),
+    ("ledger", Kernel::Ledger),
+    ("returns", Kernel::Returns),
 ];
 
 impl Kernel {
@@ -82,6 +88,8 @@ impl Kernel {
             Kernel::ReadSchema => schemas::read_classes(alloc, size, done),
             Kernel::ViewsFew => views::watch(alloc, size, FEW, done),
             Kernel::ViewsMany => views::watch(alloc, size, MANY, done),
+            Kernel::Ledger => seats::seat(alloc, size, done),
+            Kernel::Returns => seats::come_again(alloc, size, done),
         }
     }
 }

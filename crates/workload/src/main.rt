@@ -12,6 +12,7 @@ mod game;
 mod kernel;
 mod part;
 mod schemas;
+mod seats;
 mod sums;
 mod tables;
 mod views;

@@ -53,9 +53,13 @@ fn pass<L: Ledger>(
     Ok(sum)
 }
 
-fn new_room(alloc: Global) -> Result<Room, WorkFault> {
+/// A new room with as many places as there can be, which keeps seats for a minute.
+pub fn new_room(alloc: Global) -> Result<Room, WorkFault> {
     let schema = schema(alloc)?;
     let definition = definition(alloc)?;
+    if !definition.is_valid() {
+        return Err(WorkFault::Refused);
+    }
     Ok(Room::make(alloc, &schema, &definition, &Texts::new(alloc))?)
 }
 
@@ -67,13 +71,13 @@ fn definition(alloc: Global) -> Result<RoomDef, Memory> {
         max: 64,
         seat: 15_000,
         patch: 50,
-        keep: 0,
+        keep: 60_000,
         filter: Seq::new(alloc),
     })
 }
 
-// Gives the room events, and sums up how many bytes the clients are sent.
-fn give_all<L: Ledger>(
+/// Gives the room events, and sums up how many bytes the clients are sent.
+pub fn give_all<L: Ledger>(
     room: &mut Room,
     events: &[RoomEvent],
     steps: &mut Steps<L>,

@@ -1,0 +1,4 @@
+use Rattle.workload.proofs.seats.come_again.Given as goal
+
+abbrev pub ghosts-play : goal.ghosts-play
+ghosts-play a = record { name = a.blank.name; parts = a.blank.parts }
