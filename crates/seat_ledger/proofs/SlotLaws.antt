@@ -68,6 +68,10 @@ sorted_with x (s ∷ ss) k new =
     ] in
     go (precedes s x) refl
 
+-- how many stand in front of a slot is told by what it is
+pub place_is : (ss : List SlotValue) (slot x : SlotValue) (n : ℕ) → n ≡ prefix_len (λ s. precedes s slot) ss → slot ≡ x → n ≡ prefix_len (λ s. precedes s x) ss
+place_is ss slot x n h k = h ∙ ap (λ y. prefix_len (λ s. precedes s y) ss) k
+
 one_up : (n : ℕ) → 1 + n ≡ suc n
 one_up n = omega arith
 

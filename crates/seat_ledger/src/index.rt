@@ -46,14 +46,15 @@ impl Index {
         ensures kept { self.old.room ≤ self.new.room }
     {
         if let Some(key) = key {
-            let place = self.place_of(key, at);
-            self.slots.insert(place, Slot::new(key, at)).unwrap();
+            let slot = Slot::new(key, at);
+            let place = self.place_of(slot);
+            self.slots.insert(place, slot).unwrap();
         }
     }
 
     /// An entry has another key, or none, or has one where it had none.
     pub fn exchange(&mut self, old: Option<u128>, new: Option<u128>, at: u32)
-        requires narrow { IsNarrow new }
+        requires narrow { IsNarrow old × IsNarrow new }
         requires own { IsOnlyKey old at self.old.slots }
         requires room { length self.old.slots + one_of new ≤ self.old.room + one_of old }
         ensures slots { (q p : ℕ) → has_slot q p self.new.slots ≡ (if p == at then is_key q new else has_slot q p self.old.slots) }
@@ -68,7 +69,8 @@ impl Index {
 
     /// An entry goes, and the places behind its own move down.
     pub fn remove(&mut self, key: Option<u128>, at: u32)
-        requires { IsOnlyKey key at self.old.slots }
+        requires narrow { IsNarrow key }
+        requires own { IsOnlyKey key at self.old.slots }
         ensures slots { (q p : ℕ) → has_slot q p self.new.slots ≡ has_slot q (if nat_lt p at then p else p + 1) self.old.slots }
         ensures length { length self.new.slots + one_of key ≡ length self.old.slots }
         ensures kept { self.old.room ≤ self.new.room }
@@ -98,13 +100,14 @@ impl Index {
 
     // Takes the place of an entry out, which stands under its key, where it has one.
     fn take_out(&mut self, key: Option<u128>, at: u32)
-        requires { HasSlot key at self.old.slots }
+        requires narrow { IsNarrow key }
+        requires there { HasSlot key at self.old.slots }
         ensures slots { (q p : ℕ) → has_slot q p self.new.slots ≡ (has_slot q p self.old.slots && not ((p == at) && is_key q key)) }
         ensures length { length self.new.slots + one_of key ≡ length self.old.slots }
         ensures kept { self.old.room ≤ self.new.room }
     {
         if let Some(key) = key {
-            let place = self.place_of(key, at);
+            let place = self.place_of(Slot::new(key, at));
             self.slots.remove(place);
         }
     }
@@ -121,12 +124,12 @@ impl Index {
         }
     }
 
-    // How many slots stand in front of that of a key and a place.
-    fn place_of(&self, key: u128, at: u32) -> usize
-        ensures value { result ≡ prefix_len (λ s. precedes s (record { key = key; at = at })) self.now.slots }
+    // How many slots stand in front of one.
+    fn place_of(&self, slot: Slot) -> usize
+        ensures value { result ≡ prefix_len (λ s. precedes s slot) self.now.slots }
         ensures sorted { IsSorted self.now.slots }
     {
-        self.slots.partition_point(|slot| slot.is_before(key, at))
+        self.slots.partition_point(|other| other.is_before(slot))
     }
 
     // The first slot of those whose key isn't below one.

@@ -1,7 +1,6 @@
 //! The places of a room.
 ghost use Rattle.std.specs.Prelude.{◌≡◌, ◌≤◌, IfOk};
 ghost use Rattle.room_model.specs.Ledger as ledger;
-ghost use Rattle.room_model.specs.Limits.{most_places};
 ghost use Rattle.room_model.specs.Seats.{in_use, new_seats, seat_of};
 ghost use Rattle.seat_ledger.specs.Calls.{Does, Expires, LapsesAt, StandsAt};
 ghost use Rattle.seat_ledger.specs.Places.{IsPlaceOf};
@@ -32,7 +31,6 @@ impl SeatLedger {
     /// So many places, of which none is taken.
     pub fn new(alloc: Global, max: u32) -> Result<SeatLedger, Memory>
         requires least { 1 ≤ max }
-        requires most { max ≤ most_places }
         ensures { IfOk result (λ l. l ≡ new_seats max) }
     {
         Ok(SeatLedger {

@@ -66,22 +66,45 @@ fn event_of(alloc: Global, text: &str) -> Result<RoomEvent, Fail> {
     }
 }
 
-// An event that is no command: `tick`, `lock`, `unlock`, `moment 100`, `return a x y` with letters for the token and the
-// fresh one, or one of a session.
+// An event that is no command, by how many words it has.
 fn event_in(alloc: Global, words: &[&str]) -> Result<Option<RoomEvent>, Fail> {
     match *words {
-        ["tick"] => Ok(Some(RoomEvent::Tick)),
-        ["lock"] => Ok(Some(RoomEvent::Act(Act::Lock))),
-        ["unlock"] => Ok(Some(RoomEvent::Act(Act::Unlock))),
-        ["moment", now] => Ok(Some(RoomEvent::Moment(moment_of(now)?))),
-        ["return", session, token, fresh] => returning(session, token, fresh),
-        [verb, session] => session_event(alloc, verb, session),
+        [verb] => Ok(event_alone(verb)),
+        [verb, word] => event_with(alloc, verb, word),
         [verb, session, other] => session_event_with(verb, session, other),
+        [verb, session, token, fresh] => returning(verb, session, token, fresh),
         _ => Ok(None),
     }
 }
 
-fn returning(session: &str, token: &str, fresh: &str) -> Result<Option<RoomEvent>, Fail> {
+// `tick`, `lock`, `unlock`.
+fn event_alone(verb: &str) -> Option<RoomEvent> {
+    match verb {
+        "tick" => Some(RoomEvent::Tick),
+        "lock" => Some(RoomEvent::Act(Act::Lock)),
+        "unlock" => Some(RoomEvent::Act(Act::Unlock)),
+        _ => None,
+    }
+}
+
+// `moment 100`, or an event of a session.
+fn event_with(alloc: Global, verb: &str, word: &str) -> Result<Option<RoomEvent>, Fail> {
+    if verb == "moment" {
+        return Ok(Some(RoomEvent::Moment(moment_of(word)?)));
+    }
+    session_event(alloc, verb, word)
+}
+
+// `return a x y` with letters for the token and the fresh one.
+fn returning(
+    verb: &str,
+    session: &str,
+    token: &str,
+    fresh: &str,
+) -> Result<Option<RoomEvent>, Fail> {
+    if verb != "return" {
+        return Ok(None);
+    }
     let token = Some(id_of(token)?);
     Ok(Some(RoomEvent::Enter(id_of(session)?, token, id_of(fresh)?)))
 }

@@ -10,6 +10,6 @@ pub returns-clause-value : goal.returns-clause-value
 returns-clause-value c =
     let ss = c.deref.result.now in
     let sorted : IsSorted ss = rw c.deref.ensures.value c.self.invariant in
-    let test : SlotValue → Bool = λ s. precedes s (record { key = c.args.key; at = c.args.at }) in
-    let point = IsPartitionPoint-from_clause test ss c.partition_point.result c.partition_point.ensures.partitioned (in_front (record { key = c.args.key; at = c.args.at }) ss sorted) (λ a r f k. search (rules, of_calls)) in
+    let test : SlotValue → Bool = λ s. precedes s c.args.slot in
+    let point = IsPartitionPoint-from_clause test ss c.partition_point.result c.partition_point.ensures.partitioned (in_front c.args.slot ss sorted) (λ a r f k. search (rules, of_calls)) in
     point_is test ss c.partition_point.result c.partition_point.ensures.bound point ∙ ap (prefix_len test) (c.deref.ensures.value ∙ ap (λ i. i.slots) c.self.view_is)

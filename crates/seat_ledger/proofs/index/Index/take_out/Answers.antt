@@ -3,23 +3,23 @@ use Rattle.std.specs.List.{remove}
 use Rattle.std.proofs.lemmas.Bool.Decides.{nat_tests}
 use Rattle.seat_ledger.specs.SlotValues.{SlotValue}
 use Rattle.seat_ledger.specs.Slots.{IsSorted, without_slot, is_slot, is_key, has_slot, HasSlot}
-use Rattle.seat_ledger.proofs.SlotLaws.{taken, taken_within, sorted_without, has_without}
+use Rattle.seat_ledger.proofs.SlotLaws.{place_is, taken, taken_within, sorted_without, has_without}
 use Rattle.seat_ledger.proofs.index.Index.take_out.Goals as goal
 
 pub remove-requires : goal.remove-requires
 remove-requires c =
     let ss = c.args.self.now.slots in
     let x : SlotValue = record { key = c.in-Some.key; at = c.args.at } in
-    let there : has_slot x.key x.at ss ≡ true = subst (λ k. HasSlot k c.args.at ss) c.in-Some.is c.requires in
-    omega (arith, c.place_of-place.ensures.value, taken_within x ss c.place_of-place.ensures.sorted there, ap (λ i. length i.slots) c.self.view_is, c.self.inside.slots.ok.0)
+    let there : has_slot x.key x.at ss ≡ true = subst (λ k. HasSlot k c.args.at ss) c.in-Some.is c.requires.there in
+    omega (arith, place_is ss c.new.result x c.place_of-place.result c.place_of-place.ensures.value c.new.ensures, taken_within x ss c.place_of-place.ensures.sorted there, ap (λ i. length i.slots) c.self.view_is, c.self.inside.slots.ok.0)
 
 -- the slots without the old one
 old_slots : (c : goal.After-remove) → c.remove.new.self.items ≡ without_slot (record { key = c.in-Some.key; at = c.args.at }) c.args.self.now.slots
 old_slots c =
     let ss = c.args.self.now.slots in
     let x : SlotValue = record { key = c.in-Some.key; at = c.args.at } in
-    let there : has_slot x.key x.at ss ≡ true = subst (λ k. HasSlot k c.args.at ss) c.in-Some.is c.requires in
-    c.remove.ensures.items ∙ (ap₂ remove (ap (λ i. i.slots) c.self.view_is) c.place_of-place.ensures.value ∙ taken x ss c.place_of-place.ensures.sorted there)
+    let there : has_slot x.key x.at ss ≡ true = subst (λ k. HasSlot k c.args.at ss) c.in-Some.is c.requires.there in
+    c.remove.ensures.items ∙ (ap₂ remove (ap (λ i. i.slots) c.self.view_is) (place_is ss c.new.result x c.place_of-place.result c.place_of-place.ensures.value c.new.ensures) ∙ taken x ss c.place_of-place.ensures.sorted there)
 
 pub invariant_of-self : goal.invariant_of-self
 invariant_of-self c =

@@ -5,20 +5,20 @@ use Rattle.seat_ledger.proofs.HeldLaws.{only_at}
 use Rattle.seat_ledger.proofs.PlaceLaws.{there_is, kept_removed}
 use Rattle.seat_ledger.proofs.places.Places.remove.Goals as goal
 
-pub remove-requires : goal.remove-requires
-remove-requires c q =
+pub remove-requires-clause-own : goal.remove-requires-clause-own
+remove-requires-clause-own c q =
     let es = c.self.inside.entries.items in
     let there = there_is es c.args.at c.index.result.now (omega (arith, c.requires, ap (λ p. length p.entries) c.self.view_is)) c.index.ensures in
     only_at by_session es c.args.at c.index.result.now c.self.inside.by_session c.self.invariant.under_session there q ∙ ap (λ n. is_key q (Some n)) (sym c.id_key.ensures.value)
 
-pub remove-requires-2 : goal.remove-requires-2
-remove-requires-2 c q =
+pub remove-requires-2-clause-own : goal.remove-requires-2-clause-own
+remove-requires-2-clause-own c q =
     let es = c.self.inside.entries.items in
     let there = there_is es c.args.at c.index.result.now (omega (arith, c.requires, ap (λ p. length p.entries) c.self.view_is)) c.index.ensures in
     only_at by_token es c.args.at c.index.result.now c.self.inside.by_token c.self.invariant.under_token there q ∙ ap (is_key q) (sym c.token_key.ensures.value)
 
-pub remove-requires-3 : goal.remove-requires-3
-remove-requires-3 c q =
+pub remove-requires-3-clause-own : goal.remove-requires-3-clause-own
+remove-requires-3-clause-own c q =
     let es = c.self.inside.entries.items in
     let there = there_is es c.args.at c.index.result.now (omega (arith, c.requires, ap (λ p. length p.entries) c.self.view_is)) c.index.ensures in
     only_at by_lapse es c.args.at c.index.result.now c.self.inside.by_lapse c.self.invariant.under_lapse there q ∙ ap (is_key q) (sym c.lapse_key.ensures.value)
