@@ -4,9 +4,11 @@ ghost use Rattle.room_model.specs.Ledger.{lapse_of};
 ghost use Rattle.seat_ledger.specs.Slots.{IsNarrow};
 ghost use Rattle.seat_ledger.specs.Keys.{HasIdAsToken, id_number, IsId, token_key};
 
-use crate::slot::FRONT;
 use room_model::Seat;
 use schema_model::Id;
+
+// Two to the power of 64: one above what the first eight bytes of an id can be.
+const FRONT: u128 = 18446744073709551616;
 
 /// An id as a number.
 pub fn id_key(id: Id) -> u128
