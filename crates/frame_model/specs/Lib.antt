@@ -1,3 +1,5 @@
 pub mod Frames
+pub mod PackData
 pub mod Packs
 pub mod Reading
+pub mod ServerReading

@@ -9,7 +9,7 @@ use Rattle.frame_model.specs.declared.frame.ClientFrame.{ClientFrame}
 use Rattle.frame_model.specs.declared.frame.ClientFrame.TheVariants.{Ack, Leave, Msg, Raw}
 use Rattle.frame_model.specs.declared.fault.FrameFault.{FrameFault}
 use Rattle.frame_model.specs.declared.fault.FrameFault.TheVariants.{Empty, UnknownCode, Bad, TooLong}
-use Rattle.frame_model.specs.Packs.{read_end}
+use Rattle.frame_model.specs.Packs.{read_pack}
 
 -- a byte begins a text
 abbrev pub begins_text : ℕ → Bool
@@ -32,7 +32,7 @@ kind_at bytes at =
 -- a payload is nothing, or one MessagePack value
 abbrev pub is_payload : List ℕ → Bool
 is_payload [] = true
-is_payload (b ∷ bs) = is_ok (read_end (b ∷ bs))
+is_payload (b ∷ bs) = is_ok (read_pack (b ∷ bs))
 
 -- a message, behind its kind
 abbrev pub message_behind : List ℕ → MsgKind × ℕ → Result ClientFrame FrameFault

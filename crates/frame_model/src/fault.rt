@@ -1,3 +1,4 @@
+use schema_model::Memory;
 use thiserror::Error;
 
 /// Why bytes are no MessagePack value. `Short` carries the length of the bytes, `Trailing` the place after the value,
@@ -45,4 +46,15 @@ pub enum FrameFault {
     TooLong,
     #[error("out of memory")]
     Memory,
+}
+
+impl From<Memory> for PackFault {
+    ghost use Rattle.std.specs.Prelude.{◌≡◌};
+    ghost use Rattle.frame_model.specs.declared.fault.PackFault.TheVariants as fault;
+
+    ghost from_gives = { λ _ given. given ≡ fault.Memory };
+
+    fn from(_: Memory) -> Self {
+        PackFault::Memory
+    }
 }

@@ -3,7 +3,10 @@
 
 pub mod codes;
 pub mod fault;
+pub mod form;
 pub mod frame;
+pub mod pack;
 
 pub use fault::{FrameFault, PackFault};
 pub use frame::{ClientFrame, MsgKind, ServerFrame};
+pub use pack::{MOST_LEVELS, Pack, PackPairs, Packs};

@@ -1,3 +1,5 @@
 pub mod Places
 pub mod RisingLaws
 pub mod SameBytes
+pub mod Fronts
+pub mod Utf8Laws

@@ -93,7 +93,7 @@ fn read_item<K: Known>(
 }
 
 // A new item of a map, from its key on.
-#[tactic(auto, unfolding(wire_model::specs::Grammar::named_value), using(crate::proofs::Within::text_ends))]
+#[tactic(auto, unfolding(wire_model::specs::Grammar::named_value), using(schema_model::proofs::Within::text_ends))]
 fn read_named<K: Known>(
     from: &Source<'_, K>,
     at: usize,

@@ -12,7 +12,6 @@ use Rattle.room_model.specs.declared.seat.Seat.TheVariants as seat
 use Rattle.room_model.specs.Sessions.{session_of}
 use Rattle.room_model.specs.Room.{RoomValue, room_step}
 use Rattle.room_laws.specs.Places.{may_happen, is_connected_in}
-use Rattle.room_like.specs.Taken.{is_taken}
 use Rattle.text_model.specs.Marks.{is_id, is_room_name}
 use Rattle.text_model.specs.Paths.{path_schema}
 use Rattle.text_model.specs.declared.path.Item.{Item}
@@ -81,10 +80,10 @@ abbrev pub may_follow : ℕ → Bool → List Item → Bool
 may_follow fields asked [] = true
 may_follow fields asked (i ∷ is) = may_come fields asked i && may_follow fields (asked_after asked i) is
 
--- the room, where there is one, takes an event
+-- an event may happen to the room, where there is one
 abbrev pub CanTake : Option Held → RoomEvent → Type 0
 CanTake None e = ⊤
-CanTake (Some h) e = IsTrue (may_happen h.room e) × IsTrue (is_taken e)
+CanTake (Some h) e = IsTrue (may_happen h.room e)
 
 -- the room, where there is one, after an event
 abbrev pub after_event : Option Held → RoomEvent → Option RoomValue

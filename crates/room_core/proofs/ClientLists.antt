@@ -10,6 +10,7 @@ use Rattle.room_model.specs.declared.seat.SeatEntry.{SeatEntry}
 use Rattle.room_model.specs.Sessions.{Session, session_of, change_session, sessions_but}
 use Rattle.room_laws.specs.Placed.{AreDistinct, entry_tells}
 use Rattle.room_laws.proofs.AlikeLists.{Alike, first_alike, rest_alike}
+use Rattle.room_laws.proofs.SessionLists.{nobody}
 use Rattle.seat_ledger.specs.Calls.{StandsAt}
 use Rattle.room_core.specs.declared.client.Client.{Client}
 use Rattle.room_core.specs.Clients.{IsClientOf, IsClientAt, TellTheSame, client_tells}
@@ -114,11 +115,15 @@ module _ (id : List ℕ) where
 pub set_same : (cs : List Client) (at : ℕ) (c : Client) → slice_get cs at ≡ Some c → set cs at c ≡ cs
 set_same cs at c there = ap (set cs at) (sym (get_or_from_slice_get cs at c c there)) ∙ set-get_or cs at c
 
--- what all tell, where one changes that tells the same
+-- what is read off all, where one changes of which the same is read
+pub same_set : {X : Type 0} (f : Client → X) (cs : List Client) (at : ℕ) (c d : Client) → slice_get cs at ≡ Some c → f d ≡ f c → map f (set cs at d) ≡ map f cs
+same_set f [] at c d there same = refl
+same_set f (x ∷ xs) zero c d there same = ap (λ t. t ∷ map f xs) (same ∙ ap f (sym (some_same x c there)))
+same_set f (x ∷ xs) (suc n) c d there same = ap (λ ts. f x ∷ ts) (same_set f xs n c d there same)
+
+-- so it is with what they tell
 pub told_set : (cs : List Client) (at : ℕ) (c d : Client) → slice_get cs at ≡ Some c → client_tells d ≡ client_tells c → TellTheSame (set cs at d) cs
-told_set [] at c d there same = refl
-told_set (x ∷ xs) zero c d there same = ap (λ t. t ∷ map client_tells xs) (same ∙ ap client_tells (sym (some_same x c there)))
-told_set (x ∷ xs) (suc n) c d there same = ap (λ ts. client_tells x ∷ ts) (told_set xs n c d there same)
+told_set = same_set client_tells
 
 -- ---- clients stand as the entries of places
 
@@ -141,10 +146,6 @@ same_there q (e ∷ es) (s ∷ ss) h =
       | false ↦ same_there q es ss (rest_alike e s es ss h)
     ] in
     ap (λ n. is_some (cond (bytes_eq n q) (Some e) (find (λ (e : SeatEntry). bytes_eq e.session q) es))) name ∙ go (bytes_eq s.id q)
-
-pub nobody : {X : Type 0} (o : Option X) → is_some o ≡ false → o ≡ None
-nobody (Some x) h = absurd (cc)
-nobody None h = refl
 
 pub client_place : (q : List ℕ) (es : List SeatEntry) (cs : List Client) (o : Option ℕ) → Alike es (sessions cs) → StandsAt q es o → IsClientAt q cs o
 client_place q es cs None h none = nobody (session_of (sessions cs) q) (sym (same_there q es (sessions cs) h) ∙ ap is_some none)

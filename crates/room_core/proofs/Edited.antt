@@ -42,7 +42,7 @@ module _ (def : RoomDef) (criteria : List (List ℕ)) (live : Live) (shared : Vi
 
   -- where one does
   module _ (distinct : AreDistinct (map session_of_client cs)) (at : ℕ) (c d : Client) (there : slice_get cs at ≡ Some c) (name : c.id ≡ id) where
-    step_is : on_session (room_at cs) id does ≡ acted_on (room_at cs) id (Some (does (session_of_client c)))
+    pub step_is : on_session (room_at cs) id does ≡ acted_on (room_at cs) id (Some (does (session_of_client c)))
     step_is = ap (λ o. acted_on (room_at cs) id (option_map does o)) (named_there id cs at c distinct there name)
 
     pub edited_outs : (refusal : Option Refusal) → EditTells (does (session_of_client c)) c d refusal → (on_session (room_at cs) id does).1 ≡ refused_outs refusal

@@ -1,13 +1,15 @@
 -- What becomes of a room whose client sends a frame, loses its connection, is kicked, or lapses.
-use Rattle.std.proofs.Common.{Bool, ◌≡◌, ℕ, zero, suc, ◌+◌, ◌-◌, ◌<◌, ◌≤◌, arith, true, false, cond, ◌||◌, List, [], ◌∷◌, ◌++◌, map, set, remove, Option, Some, None, refl, sym, ap, ◌∙◌}
-use Rattle.std.specs.Prelude.{nat_lt, slice_get}
+use Rattle.std.proofs.Common.{◌≡◌, ℕ, zero, suc, ◌+◌, ◌-◌, ◌<◌, ◌≤◌, arith, true, false, cond, List, [], ◌∷◌, ◌++◌, map, set, remove, Option, Some, None, Result, Ok, Err, refl, sym, ap, ◌∙◌}
+use Rattle.std.specs.Prelude.{nat_lt, slice_get, IfOk, OnOk}
 use Rattle.std.specs.Option.{option_map, option_map_or}
 use Rattle.std.proofs.lemmas.Bool.{lt-ltb}
 use Rattle.state_model.specs.Reached.{times}
-use Rattle.lists.proofs.SameBytes.{same_bytes}
-use Rattle.frame_model.specs.Frames.{client_bytes}
 use Rattle.frame_model.specs.Reading.{read_client}
-use Rattle.frame_model.specs.declared.frame.ClientFrame.TheVariants as client
+use Rattle.frame_model.specs.declared.frame.ClientFrame.{ClientFrame}
+use Rattle.frame_model.specs.declared.fault.FrameFault.{FrameFault}
+use Rattle.frame_model.specs.declared.fault.FrameFault.TheVariants as fault
+use Rattle.client_frames.specs.Given.{GivesFrame}
+use Rattle.lists.specs.declared.memory.Memory.{Memory}
 use Rattle.room_model.specs.declared.definition.RoomDef.{RoomDef}
 use Rattle.room_model.specs.declared.event.RoomOut.{RoomOut}
 use Rattle.room_model.specs.declared.event.RoomOut.TheVariants as out
@@ -15,16 +17,15 @@ use Rattle.room_model.specs.declared.event.Stage.{Stage}
 use Rattle.room_model.specs.Seats.{Seats, seat_of, is_kept_seat, left_seat}
 use Rattle.room_model.specs.Ledger.{keep, expire}
 use Rattle.room_model.specs.Sessions.{Session, session_of, change_session, is_connected}
-use Rattle.room_model.specs.Room.{RoomValue, with_seats, with_sessions, ended, acknowledged, accepted, after_read, after_frame, after_drop, after_loss, after_kick, after_lapse, dropped, where_connected}
+use Rattle.room_model.specs.Room.{RoomValue, with_seats, with_sessions, ended, accepted, after_read, after_frame, after_drop, after_loss, after_kick, after_lapse, dropped, where_connected, unread_frame}
 use Rattle.room_laws.specs.Placed.{Placed, AreDistinct, is_kept}
 use Rattle.room_laws.specs.Places.{is_connected_in}
 use Rattle.room_laws.proofs.AlikeLists.{has_kept}
-use Rattle.room_like.specs.Taken.{is_acknowledgement, is_leave, is_taken_frame}
 use Rattle.live_state.specs.Live.{Live as State-now, schema_of}
 use Rattle.view_counts.specs.Settled.{View}
 use Rattle.room_core.specs.declared.client.Client.{Client}
 use Rattle.room_core.specs.Leaving.{lapse_told, lapsed_at}
-use Rattle.room_core.specs.Steps.{dropped_client}
+use Rattle.room_core.specs.Steps.{dropped_client, UnreadTells}
 use Rattle.room_core.specs.Values.{room_with, session_of_client}
 use Rattle.room_core.proofs.ClientLists.{named_there, changed_there, gone_there}
 
@@ -41,13 +42,26 @@ happens_to r session s happens there connected =
     ap (λ o. where_connected r o happens) there
     ∙ ap (λ b. cond b (happens s) (r, [])) (sym (ap (λ o. option_map_or (λ (s : Session). is_connected s.stage) o false) there) ∙ connected)
 
--- a frame that is taken and no leave is an acknowledgement
-pub other_frame : (bytes : List ℕ) → is_taken_frame bytes ≡ true → is_leave bytes ≡ false → is_acknowledgement bytes ≡ true
-other_frame bytes taken stays = go (is_acknowledgement bytes) (is_leave bytes) taken stays
-  where
-    go : (a b : Bool) → (a || b) ≡ true → b ≡ false → a ≡ true
-    go true b either other = refl
-    go false b either other = sym other ∙ either
+-- a frame that can't be read is answered, and changes nothing
+module _ (room : RoomValue) (session : List ℕ) (read : Result ClientFrame FrameFault) (step : RoomValue × List RoomOut) (is : step ≡ after_read room session read) where
+  unread_step : (f : FrameFault) → read ≡ Err f → step ≡ (room, out.Send session unread_frame ∷ [])
+  unread_step f gives = is ∙ ap (after_read room session) gives
+
+  pub unread_told : (f : FrameFault) (r : Result (List RoomOut) Memory) → GivesFrame (Err f) read → UnreadTells session f r → IfOk r (λ outs. outs ≡ step.1)
+  unread_told fault.Memory (Ok outs) gives tells = absurd (cc)
+  unread_told fault.Empty (Ok outs) gives tells = tells ∙ sym (ap (λ x. x.1) (unread_step fault.Empty gives))
+  unread_told (fault.UnknownCode code) (Ok outs) gives tells = tells ∙ sym (ap (λ x. x.1) (unread_step (fault.UnknownCode code) gives))
+  unread_told (fault.Bad at) (Ok outs) gives tells = tells ∙ sym (ap (λ x. x.1) (unread_step (fault.Bad at) gives))
+  unread_told fault.TooLong (Ok outs) gives tells = tells ∙ sym (ap (λ x. x.1) (unread_step fault.TooLong gives))
+  unread_told f (Err e) gives tells = tt
+
+  pub unread_room : (f : FrameFault) (r : Result (List RoomOut) Memory) → GivesFrame (Err f) read → UnreadTells session f r → OnOk r (room ≡ step.0)
+  unread_room fault.Memory (Ok outs) gives tells = absurd (cc)
+  unread_room fault.Empty (Ok outs) gives tells = sym (ap (λ x. x.0) (unread_step fault.Empty gives))
+  unread_room (fault.UnknownCode code) (Ok outs) gives tells = sym (ap (λ x. x.0) (unread_step (fault.UnknownCode code) gives))
+  unread_room (fault.Bad at) (Ok outs) gives tells = sym (ap (λ x. x.0) (unread_step (fault.Bad at) gives))
+  unread_room fault.TooLong (Ok outs) gives tells = sym (ap (λ x. x.0) (unread_step fault.TooLong gives))
+  unread_room f (Err e) gives tells = tt
 
 -- ---- the client of a session, which stands at a place
 
@@ -65,17 +79,10 @@ module _ (def : RoomDef) (criteria : List (List ℕ)) (live : State-now) (shared
       ap (λ ss. with_seats (with_sessions room ss) now) (gone_there session cs at c distinct there name)
       ∙ ap (λ seats. with_seats (ended room session) seats) is
 
-  -- its frames
-  pub leave_step : (bytes : List ℕ) → is_leave bytes ≡ true → is_connected_in room session ≡ true → after_frame room session bytes ≡ (ended room session, out.Close session 4000 ∷ out.Left session ∷ [])
-  leave_step bytes is connected =
-      happens_to room session (session_of_client c) (λ s. after_read room session (read_client bytes)) own connected
-      ∙ ap (λ bs. after_read room session (read_client bs)) (same_bytes bytes (client_bytes client.Leave) is)
-
-  pub acknowledge_step : (bytes : List ℕ) → is_acknowledgement bytes ≡ true → is_connected_in room session ≡ true
-      → after_frame room session bytes ≡ (with_sessions room (change_session session acknowledged (map session_of_client cs)), [])
-  acknowledge_step bytes is connected =
-      happens_to room session (session_of_client c) (λ s. after_read room session (read_client bytes)) own connected
-      ∙ ap (λ bs. after_read room session (read_client bs)) (same_bytes bytes (client_bytes client.Ack) is)
+  -- it sends a frame
+  pub frame_step : (bytes : List ℕ) (read : Result ClientFrame FrameFault) → read_client bytes ≡ read → is_connected_in room session ≡ true → after_frame room session bytes ≡ after_read room session read
+  frame_step bytes read is connected =
+      happens_to room session (session_of_client c) (λ s. after_read room session (read_client bytes)) own connected ∙ ap (after_read room session) is
 
   -- its connection is lost
   by_name : (f : List ℕ → RoomValue × List RoomOut) → f c.id ≡ f session

@@ -10,4 +10,5 @@ mod Leaves
 mod Ticked
 mod TickedAll
 mod TickedRoom
+mod Told
 mod Orders

@@ -4,7 +4,7 @@ use Rattle.std.specs.Prelude.{is_ok}
 use Rattle.std.specs.List.{find}
 use Rattle.std.specs.Option.{option_map, option_map_or}
 use Rattle.std.specs.Str.{bytes_eq}
-use Rattle.std.proofs.lemmas.Bool.{and_parts}
+use Rattle.std.proofs.lemmas.Bool.{and_parts, not-true}
 use Rattle.room_model.specs.declared.seat.Seat.{Seat}
 use Rattle.room_model.specs.declared.seat.Seat.TheVariants as seat
 use Rattle.room_model.specs.declared.seat.SeatEntry.{SeatEntry}
@@ -18,7 +18,8 @@ use Rattle.room_laws.specs.Placed.{Placed}
 use Rattle.room_laws.specs.Places.{has_place_for, is_connected_in}
 use Rattle.room_laws.proofs.AlikeLists.{has_seat}
 use Rattle.seat_ledger.specs.Calls.{Does, Expires}
-use Rattle.room_core.proofs.ClientLists.{nobody, same_there, some_same}
+use Rattle.room_laws.proofs.SessionLists.{nobody}
+use Rattle.room_core.proofs.ClientLists.{same_there, some_same}
 
 -- what a call did, by its answer
 pub did : (x : Result Seats SeatFault) (old new : Seats) (done : Unit {0}) → Does x old new (Ok done) → x ≡ Ok new
@@ -63,18 +64,14 @@ has_any r q p = mapped (find (λ (e : SeatEntry). bytes_eq e.session q) r.seats.
 pub no_seat : (r : RoomValue) (q : List ℕ) → Placed r → session_of r.sessions q ≡ None → seat_of r.seats q ≡ None
 no_seat r q p gone = nobody (seat_of r.seats q) (has_any r q p ∙ ap is_some gone)
 
-turned : (b : Bool) → not b ≡ true → b ≡ false
-turned true h = absurd (cc)
-turned false h = refl
-
 -- the reservation of a session that there is a place for
 pub reserved_ok : (r : RoomValue) (session : List ℕ) (lapse : ℕ) → Placed r → has_place_for r session ≡ true → reserve r.seats session lapse ≡ Ok (reserved_seat r.seats session lapse)
 reserved_ok r session lapse p place =
     let both = and_parts (not r.seats.locked && not (is_full r.seats)) (not (is_some (session_of r.sessions session))) place in
     let free = and_parts (not r.seats.locked) (not (is_full r.seats)) both.0 in
-    let new : is_some (seat_of r.seats session) ≡ false = has_any r session p ∙ turned (is_some (session_of r.sessions session)) both.1 in
-    ap (λ b. cond b (Err fault.Locked) (cond (is_full r.seats) (Err fault.Full) (cond (is_some (seat_of r.seats session)) (Err fault.IdInUse) (Ok (reserved_seat r.seats session lapse))))) (turned r.seats.locked free.0)
-    ∙ ap (λ b. cond b (Err fault.Full) (cond (is_some (seat_of r.seats session)) (Err fault.IdInUse) (Ok (reserved_seat r.seats session lapse)))) (turned (is_full r.seats) free.1)
+    let new : is_some (seat_of r.seats session) ≡ false = has_any r session p ∙ not-true (is_some (session_of r.sessions session)) both.1 in
+    ap (λ b. cond b (Err fault.Locked) (cond (is_full r.seats) (Err fault.Full) (cond (is_some (seat_of r.seats session)) (Err fault.IdInUse) (Ok (reserved_seat r.seats session lapse))))) (not-true r.seats.locked free.0)
+    ∙ ap (λ b. cond b (Err fault.Full) (cond (is_some (seat_of r.seats session)) (Err fault.IdInUse) (Ok (reserved_seat r.seats session lapse)))) (not-true (is_full r.seats) free.1)
     ∙ ap (λ b. cond b (Err fault.IdInUse) (Ok (reserved_seat r.seats session lapse))) new
 
 -- the keeping of the seat of a session that has a connection

@@ -35,7 +35,7 @@ fresh_stands schema last rows c at none new = record {
 -- ---- other clients
 
 -- a room stands with other clients where each of them does
-stands_with : (live : State-now) (shared : View) (cs ds : List Client) (s : Stands live shared cs) → All (ClientStands (schema_of live) s.last.rows (rows_of live)) ds → Stands live shared ds
+pub stands_with : (live : State-now) (shared : View) (cs ds : List Client) (s : Stands live shared cs) → All (ClientStands (schema_of live) s.last.rows (rows_of live)) ds → Stands live shared ds
 stands_with live shared cs ds s each = record { last = s.last; kept = s.kept; spelled = s.spelled; later = s.later; shared_stands = s.shared_stands; each = each }
 
 -- with one more

@@ -1,5 +1,5 @@
--- Clients whose tick is done, one after another.
-use Rattle.std.proofs.Common.{◌≡◌, ℕ, zero, suc, ◌+◌, ◌<◌, List, [], ◌∷◌, ◌++◌, All, Option, map, take, drop, set, length, get_or, sym, ap, ◌∙◌, arith}
+-- Clients that are gone through one after another: what is done, what is given, and the steps of a tick.
+use Rattle.std.proofs.Common.{◌≡◌, ℕ, zero, suc, ◌+◌, ◌<◌, List, [], ◌∷◌, ◌++◌, map, take, drop, set, length, get_or, sym, ap, ◌∙◌, arith}
 use Rattle.std.specs.Prelude.{◌≤◌}
 use Rattle.std.proofs.Math.Seq.{take-append_seam}
 use Rattle.std.specs.List.{flat_map, sum_by}
@@ -12,10 +12,8 @@ use Rattle.room_model.specs.Sessions.{Session}
 use Rattle.view_counts.specs.Settled.{View, view_before}
 use Rattle.room_core.specs.declared.client.Client.{Client}
 use Rattle.room_core.specs.Costs.{session_cost}
-use Rattle.room_core.specs.Stands.{ClientStands}
-use Rattle.room_core.specs.Ticks.{Ticks, sent_to, ticked_client}
+use Rattle.room_core.specs.Ticks.{ticked_client}
 use Rattle.room_core.specs.Values.{session_of_client}
-use Rattle.room_core.proofs.Fronts.{all_passed}
 
 -- the front of a list is done, the rest is as it was: the next one, and what is behind it
 module _ {X : Type 0} (xs first : List X) (n : ℕ) (d : X) (long : length xs ≡ length first) (within : n < length first) (rest : drop n xs ≡ drop n first) where
@@ -32,38 +30,36 @@ module _ {X : Type 0} (xs first : List X) (n : ℕ) (d : X) (long : length xs �
 pub written_back : {X : Type 0} (n : ℕ) (ys xs : List X) → n ≡ length ys → take n (ys ++ drop (length ys) xs) ≡ ys
 written_back n ys xs all = ap (λ k. take k (ys ++ drop (length ys) xs)) all ∙ take-append_seam ys (drop (length ys) xs)
 
-module _ (live : State-now) (shared : View) where
-  -- what a client is sent
-  abbrev outs_of : Client → List RoomOut
-  outs_of c = tick_outs (schema_of live) (view_before shared) (rows_of live) (session_of_client c)
-
-  -- its session then
-  abbrev session_then : Client → Session
-  session_then c = ticked_client (schema_of live) (rows_of live) c
-
-  -- so many are done, and were sent this
+-- what is given of a client, and what its session is then
+module _ (outs_of : Client → List RoomOut) (session_then : Client → Session) where
+  -- so many are done, and gave this
   pub record Done (first : List Client) (n : ℕ) (cs : List Client) (so_far : List RoomOut) : Type 0 where
     pub rest : drop n cs ≡ drop n first
-    pub ticked : map session_of_client (take n cs) ≡ map session_then (take n first)
-    pub stand : All (ClientStands (schema_of live) (rows_of live) (rows_of live)) (take n cs)
+    pub sessions : map session_of_client (take n cs) ≡ map session_then (take n first)
     pub outs : so_far ≡ flat_map outs_of (take n first)
 
   -- one more
-  pub done_more : (first cs : List Client) (n : ℕ) (d new : Client) (frame : Option (List ℕ)) (outs after : List RoomOut) → length cs ≡ length first → n < length first → Done first n cs outs
-      → Ticks live shared (get_or cs n d) new frame → after ≡ outs ++ sent_to new.id frame → Done first (n + 1) (set cs n new) after
-  done_more first cs n d new frame outs after long within done ticks sent =
+  pub done_more : (first cs : List Client) (n : ℕ) (d new : Client) (outs after : List RoomOut) → length cs ≡ length first → n < length first → Done first n cs outs
+      → session_of_client new ≡ session_then (get_or cs n d) → after ≡ outs ++ outs_of (get_or cs n d) → Done first (n + 1) (set cs n new) after
+  done_more first cs n d new outs after long within done session sent =
       let same = next_same cs first n d long within done.rest in
       let within_now : n < length cs = omega arith in
       record {
         rest = rest_same cs first n d long within done.rest new;
-        ticked = ap (map session_of_client) (take_more_set cs n new within_now) ∙ map-append session_of_client (take n cs) (new ∷ [])
-            ∙ ap (λ ss. ss ++ session_of_client new ∷ []) done.ticked
-            ∙ ap (λ (s : Session). map session_then (take n first) ++ s ∷ []) (ticks.session ∙ ap session_then same)
+        sessions = ap (map session_of_client) (take_more_set cs n new within_now) ∙ map-append session_of_client (take n cs) (new ∷ [])
+            ∙ ap (λ ss. ss ++ session_of_client new ∷ []) done.sessions
+            ∙ ap (λ (s : Session). map session_then (take n first) ++ s ∷ []) (session ∙ ap session_then same)
             ∙ sym (map-append session_then (take n first) (get_or first n d ∷ [])) ∙ ap (map session_then) (sym (take_more first n d within));
-        stand = all_passed (ClientStands (schema_of live) (rows_of live) (rows_of live)) cs n new within_now done.stand ticks.stands;
-        outs = sent ∙ ap (λ id. outs ++ sent_to id frame) ticks.id ∙ ap (λ os. outs ++ os) (ticks.outs ∙ ap outs_of same)
+        outs = sent ∙ ap (λ (c : Client). outs ++ outs_of c) same
             ∙ ap (λ os. os ++ outs_of (get_or first n d)) done.outs ∙ flat_map_more outs_of [] (take n first) (get_or first n d) ∙ ap (flat_map outs_of) (sym (take_more first n d within));
       }
+
+-- at a tick
+abbrev pub outs_at : State-now → View → Client → List RoomOut
+outs_at live shared c = tick_outs (schema_of live) (view_before shared) (rows_of live) (session_of_client c)
+
+abbrev pub session_at : State-now → Client → Session
+session_at live c = ticked_client (schema_of live) (rows_of live) c
 
 -- the steps of so many, and of one more
 module _ (live : State-now) where

@@ -2,6 +2,7 @@ pub mod Entries
 pub mod Values
 pub mod Clients
 pub mod Leaving
+pub mod Messages
 pub mod Stands
 pub mod Steps
 pub mod Ticks

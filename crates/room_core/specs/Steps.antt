@@ -10,7 +10,9 @@ use Rattle.room_model.specs.declared.event.Stage.TheVariants.{Reserved, Joining,
 use Rattle.room_model.specs.declared.refusal.Refusal.{Refusal}
 use Rattle.room_model.specs.declared.refusal.Refusal.TheVariants as refusal
 use Rattle.room_model.specs.Sessions.{Session, Acted, acted, view_added_to, view_removed_from}
-use Rattle.room_model.specs.Room.{made_outs}
+use Rattle.frame_model.specs.declared.fault.FrameFault.{FrameFault}
+use Rattle.frame_model.specs.declared.fault.FrameFault.TheVariants as frame
+use Rattle.room_model.specs.Room.{made_outs, unread_frame}
 use Rattle.lists.specs.declared.memory.Memory.{Memory}
 use Rattle.state_model.specs.declared.command.TableFault.{TableFault}
 use Rattle.state_model.specs.declared.command.TableFault.TheVariants as table
@@ -24,14 +26,15 @@ use Rattle.room_core.specs.Values.{session_of_client}
 
 -- a client at another stage
 abbrev pub client_at : Stage → Client → Client
-client_at stage c = record { id = c.id; stage = stage; members = c.members; view = c.view; keep = c.keep }
+client_at stage c = record { id = c.id; stage = stage; members = c.members; view = c.view; queue = c.queue; keep = c.keep }
 
--- a client whose seat is kept: only its members and its keep time stay
-abbrev pub client_seen : View → Client → Client
-client_seen view c = record { id = c.id; stage = Kept; members = c.members; view = view; keep = c.keep }
+-- a client whose seat is kept, with a view and with frames that wait
+abbrev pub client_seen : View → List (List ℕ) → Client → Client
+client_seen view queue c = record { id = c.id; stage = Kept; members = c.members; view = view; queue = queue; keep = c.keep }
 
+-- a client that dropped: only its members and its keep time stay
 abbrev pub dropped_client : Schema → Client → Client
-dropped_client schema c = client_seen (new_view schema) c
+dropped_client schema c = client_seen (new_view schema) [] c
 
 -- an acknowledged stage
 abbrev pub acknowledged_stage : Stage → Stage
@@ -40,6 +43,11 @@ acknowledged_stage Reserved = Reserved
 acknowledged_stage Due = Due
 acknowledged_stage Live = Live
 acknowledged_stage Kept = Kept
+
+-- what a frame gives that can't be read: want of memory nothing, any other fault the error that answers it
+abbrev pub UnreadTells : List ℕ → FrameFault → Result (List RoomOut) Memory → Type 0
+UnreadTells session frame.Memory r = IsErr r
+UnreadTells session f r = IfOk r (λ outs. outs ≡ out.Send session unread_frame ∷ [])
 
 -- what a fault of a command gives: want of memory nothing, any other its refusal
 pub record FaultTells (f : TableFault) (r : Result (List RoomOut) Memory) : Type 0 where
@@ -67,6 +75,7 @@ pub record Edited (old new : Client) : Type 0 where
   pub stage : new.stage ≡ old.stage
   pub last : new.members.last ≡ old.members.last
   pub view : new.view ≡ old.view
+  pub queue : new.queue ≡ old.queue
 
 -- the refusal of an act
 abbrev pub refused_outs : Option Refusal → List RoomOut

@@ -1,5 +1,5 @@
 -- A tick, client by client.
-use Rattle.std.specs.Prelude.{◌≡◌, ℕ, ◌==◌, true, List, [], ◌∷◌, length, All, Option, Some, None, if◌then◌else◌}
+use Rattle.std.specs.Prelude.{◌≡◌, ℕ, ◌==◌, true, List, [], ◌∷◌, length, map, All, if◌then◌else◌}
 use Rattle.schema_model.specs.Classes.{Schema}
 use Rattle.state_model.specs.declared.row.RowEntry.{RowEntry}
 use Rattle.state_model.specs.Members.{live_members}
@@ -23,24 +23,23 @@ AllThere rows cs = All (λ (c : Client). are_there rows c.members.now ≡ true) 
 
 -- a client without the pairs of rows that are gone
 abbrev pub client_swept : List RowEntry → Client → Client
-client_swept rows c = record { id = c.id; stage = c.stage; members = live_members rows c.members; view = c.view; keep = c.keep }
+client_swept rows c = record { id = c.id; stage = c.stage; members = live_members rows c.members; view = c.view; queue = c.queue; keep = c.keep }
 
 -- the session of a client after a tick
 abbrev pub ticked_client : Schema → List RowEntry → Client → Session
 ticked_client schema rows c = ticked_at c.stage (permitted schema rows c.members.now) (session_of_client c)
 
--- a frame of state bytes, where there are some
-abbrev pub frame_where : List ℕ → Option (List ℕ)
-frame_where bytes = if length bytes == 0 then None else Some (server_bytes (server.Patch bytes))
+-- the frame of state bytes, where there are some
+abbrev pub frames_where : List ℕ → List (List ℕ)
+frames_where bytes = if length bytes == 0 then [] else server_bytes (server.Patch bytes) ∷ []
 
--- the frame that a session is sent
-abbrev pub sent_to : List ℕ → Option (List ℕ) → List RoomOut
-sent_to id None = []
-sent_to id (Some frame) = out.Send id frame ∷ []
+-- the frames that a session is sent
+abbrev pub sent_to : List ℕ → List (List ℕ) → List RoomOut
+sent_to id frames = map (out.Send id) frames
 
--- what the tick of a client makes of it, and its frame
-pub record Ticks (live : State-now) (shared : View) (old new : Client) (frame : Option (List ℕ)) : Type 0 where
+-- what the tick of a client makes of it, and its frames
+pub record Ticks (live : State-now) (shared : View) (old new : Client) (frames : List (List ℕ)) : Type 0 where
   pub id : new.id ≡ old.id
   pub session : session_of_client new ≡ ticked_client (schema_of live) (rows_of live) old
-  pub outs : sent_to old.id frame ≡ tick_outs (schema_of live) (view_before shared) (rows_of live) (session_of_client old)
+  pub outs : sent_to old.id frames ≡ tick_outs (schema_of live) (view_before shared) (rows_of live) (session_of_client old)
   pub stands : ClientStands (schema_of live) (rows_of live) (rows_of live) new

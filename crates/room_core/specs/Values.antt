@@ -14,9 +14,9 @@ pub record Held : Type 0 where
   pub room : RoomValue
   pub spent : Bool
 
--- the session of a client; no message waits for its full state
+-- the session of a client
 abbrev pub session_of_client : Client → Session
-session_of_client c = record { id = c.id; stage = c.stage; members = c.members; permitted = view_now c.view; queue = []; keep = c.keep }
+session_of_client c = record { id = c.id; stage = c.stage; members = c.members; permitted = view_now c.view; queue = c.queue; keep = c.keep }
 
 -- the room of these parts
 abbrev pub room_with : RoomDef → List (List ℕ) → Live → View → Seats → List Client → RoomValue

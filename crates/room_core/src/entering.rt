@@ -35,6 +35,7 @@ impl Parts {
             stage: Stage::Reserved,
             members: Members::new(self.alloc)?,
             view: ViewCounts::new(self.alloc, self.live.schema())?,
+            queue: Seq::new(self.alloc),
             keep: self.def.keep as u32,
         };
         self.clients.push(client)?;

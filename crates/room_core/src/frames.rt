@@ -1,58 +1,79 @@
 //! The frames of a room.
-ghost use Rattle.std.specs.Prelude.{◌≡◌, ◌<◌, ◌∷◌, ◌++◌, length, IfOk, OnOk};
-ghost use Rattle.frame_model.specs.Frames.{server_bytes, short_text};
+ghost use Rattle.std.specs.Prelude.{◌≡◌, IfOk};
+ghost use Rattle.client_frames.specs.Written.{HasServerBytes, IsShortKind};
+ghost use Rattle.frame_model.specs.Frames.{server_bytes};
 ghost use Rattle.frame_model.specs.declared.frame.ServerFrame.TheVariants as server;
-ghost use Rattle.room_model.specs.Room.{join_frame as join_bytes};
+ghost use Rattle.room_model.specs.Room.{join_frame as join_bytes, unread_frame as unread_bytes};
 
-use frame_model::codes::{JOIN_ROOM, ROOM_STATE, ROOM_STATE_PATCH};
-use schema_model::{Bytes, Id, Memory};
+use client_frames::{MsgKind, ServerFrame, write_message, write_raw, write_server};
+use schema_model::{Bytes, Id, Memory, Text};
 use std::alloc::Global;
 
-// The name of the serializer of states.
-const SERIALIZER: &[u8] = b"schema";
+// The code and the text of the error that answers a frame that can't be read.
+const INVALID_PAYLOAD: i32 = 4217;
+
+const INVALID_PAYLOAD_TEXT: &str = "invalid payload";
 
 /// The JOIN_ROOM frame with a fresh token.
 pub fn join_frame(alloc: Global, fresh: Id) -> Result<Bytes, Memory>
     ensures { IfOk result (λ bytes. bytes ≡ join_bytes fresh) }
 {
     let token = fresh.0;
-    let mut frame = Vec::new(alloc);
-    frame.push(JOIN_ROOM)?;
-    put_short(&mut frame, &token)?;
-    put_short(&mut frame, SERIALIZER)?;
-    Ok(Bytes::from_vec(frame))
+    let handshake = Bytes::from_vec(Vec::new(alloc));
+    written(
+        alloc,
+        &ServerFrame::Join(Bytes::from_slice(alloc, &token)?, handshake),
+    )
 }
 
-// Adds a text of fewer than 256 bytes behind one byte of its length.
-fn put_short(frame: &mut Vec<u8>, text: &[u8]) -> Result<(), Memory>
-    requires { length text.now < 256 }
-    ensures { OnOk result (frame.new.items ≡ frame.old.items ++ short_text text.now) }
+/// The frame that answers one that can't be read.
+pub fn unread_frame(alloc: Global) -> Result<Bytes, Memory>
+    ensures { IfOk result (λ bytes. bytes ≡ unread_bytes) }
 {
-    frame.push(text.len() as u8)?;
-    frame.extend_from_slice(text)?;
-    Ok(())
+    let text = Text::from_text(alloc, INVALID_PAYLOAD_TEXT)?;
+    written(alloc, &ServerFrame::Fault(INVALID_PAYLOAD, text))
 }
 
 /// The frame of a full state.
-pub fn full_frame(alloc: Global, state: &Bytes) -> Result<Bytes, Memory>
-    ensures { IfOk result (λ bytes. bytes ≡ server_bytes (server.State state.now)) }
+pub fn full_frame(alloc: Global, state: Bytes) -> Result<Bytes, Memory>
+    ensures { IfOk result (λ bytes. bytes ≡ server_bytes (server.State state)) }
 {
-    coded(alloc, ROOM_STATE, state)
+    written(alloc, &ServerFrame::State(state))
 }
 
 /// The frame of a patch.
-pub fn patch_frame(alloc: Global, state: &Bytes) -> Result<Bytes, Memory>
-    ensures { IfOk result (λ bytes. bytes ≡ server_bytes (server.Patch state.now)) }
+pub fn patch_frame(alloc: Global, state: Bytes) -> Result<Bytes, Memory>
+    ensures { IfOk result (λ bytes. bytes ≡ server_bytes (server.Patch state)) }
 {
-    coded(alloc, ROOM_STATE_PATCH, state)
+    written(alloc, &ServerFrame::Patch(state))
 }
 
-// State bytes behind their code.
-fn coded(alloc: Global, code: u8, state: &Bytes) -> Result<Bytes, Memory>
-    ensures { IfOk result (λ bytes. bytes ≡ code ∷ state.now) }
+// The bytes of a frame.
+fn written(alloc: Global, frame: &ServerFrame) -> Result<Bytes, Memory>
+    requires { HasServerBytes frame.now }
+    ensures { IfOk result (λ bytes. bytes ≡ server_bytes frame.now) }
 {
-    let mut frame = Vec::new(alloc);
-    frame.push(code)?;
-    frame.extend_from_slice(state.as_slice())?;
-    Ok(Bytes::from_vec(frame))
+    let mut out = Vec::new(alloc);
+    write_server(&mut out, frame)?;
+    Ok(Bytes::from_vec(out))
+}
+
+/// The frame of a message with a payload of MessagePack.
+pub fn message_frame(alloc: Global, kind: &MsgKind, payload: &Bytes) -> Result<Bytes, Memory>
+    requires { IsShortKind kind.now }
+    ensures { IfOk result (λ bytes. bytes ≡ server_bytes (server.Msg kind.now payload.now)) }
+{
+    let mut out = Vec::new(alloc);
+    write_message(&mut out, kind, payload.as_slice())?;
+    Ok(Bytes::from_vec(out))
+}
+
+/// The frame of a message of raw bytes.
+pub fn raw_frame(alloc: Global, kind: &MsgKind, payload: &Bytes) -> Result<Bytes, Memory>
+    requires { IsShortKind kind.now }
+    ensures { IfOk result (λ bytes. bytes ≡ server_bytes (server.Raw kind.now payload.now)) }
+{
+    let mut out = Vec::new(alloc);
+    write_raw(&mut out, kind, payload.as_slice())?;
+    Ok(Bytes::from_vec(out))
 }

@@ -1,5 +1,5 @@
-//! What clients say so far, and how they go from a room or lose their connection: they leave, drop, are kicked, or their
-//! seats lapse.
+//! What clients say, and how they go from a room or lose their connection: they leave, drop, are kicked, or their seats
+//! lapse.
 ghost use Rattle.std.specs.Prelude.{◌≡◌, [], ◌∷◌, ◌++◌, IfOk, IsTrue, OnErr, OnOk};
 ghost use Rattle.room_model.specs.Ledger.{expire};
 ghost use Rattle.room_model.specs.Room.{after_frame, after_kick, after_loss, after_moment, ended};
@@ -7,18 +7,18 @@ ghost use Rattle.room_model.specs.declared.event.RoomOut.TheVariants.{Close, Lef
 ghost use Rattle.room_model.specs.Sessions.{session_of};
 ghost use Rattle.room_laws.specs.Ordered.{Ordered};
 ghost use Rattle.room_laws.specs.Places.{is_connected_in, is_moment};
-ghost use Rattle.room_like.specs.Taken.{is_taken_frame};
 ghost use Rattle.room_core.specs.Clients.{IsClientOf};
 ghost use Rattle.room_core.specs.Leaving.{Lapses, lapse_told};
 ghost use Rattle.room_core.specs.Stands.{RoomStands};
-ghost use Rattle.room_core.specs.Steps.{acknowledged_stage};
+ghost use Rattle.room_core.specs.Steps.{acknowledged_stage, UnreadTells};
 ghost use Rattle.room_core.specs.Values.{room_of};
 
 use crate::clients::has_connection;
 use crate::edits::refused;
 use crate::entering::one_out;
+use crate::frames::unread_frame;
 use crate::parts::Parts;
-use crate::takes::is_leave;
+use client_frames::{ClientFrame, FrameFault, read_client};
 use lists::Seq;
 use room_model::{Refusal, RoomOut, RoomOuts, Stage};
 use schema_model::{Bytes, Id, Memory};
@@ -29,11 +29,11 @@ use view_counts::ViewCounts;
 const CONSENTED: u16 = 4000;
 
 impl Parts {
-    /// A frame of a connected session: its acknowledgement, or that it leaves.
+    /// A frame of a connected session: its acknowledgement, that it leaves, or a message, which is handed on. What can't be
+    /// read is answered by an error.
     pub fn frame(&mut self, session: Id, bytes: &Bytes) -> Result<RoomOuts, Memory>
         requires stands { RoomStands self.old }
         requires order { Ordered (room_of self.old) }
-        requires bytes { IsTrue (is_taken_frame bytes.now) }
         requires connected { IsTrue (is_connected_in (room_of self.old) session) }
         ensures outs { IfOk result (λ outs. outs ≡ (after_frame (room_of self.old) session bytes.now).1) }
         ensures room { OnOk result (room_of self.new ≡ (after_frame (room_of self.old) session bytes.now).0) }
@@ -43,14 +43,25 @@ impl Parts {
         let Some(at) = self.place_of(session) else {
             return Ok(Seq::new(self.alloc));
         };
-        if is_leave(bytes.as_slice()) {
-            let outs = closed(self.alloc, session, CONSENTED)?;
-            self.end(session, at);
-            return Ok(outs);
+        match read_client(self.alloc, bytes.as_slice()) {
+            Ok(ClientFrame::Ack) => {
+                let client = &mut self.clients[at];
+                client.stage = acknowledged(client.stage);
+                Ok(Seq::new(self.alloc))
+            }
+            Ok(ClientFrame::Leave) => {
+                let outs = closed(self.alloc, session, CONSENTED)?;
+                self.end(session, at);
+                Ok(outs)
+            }
+            Ok(ClientFrame::Msg(kind, payload)) => {
+                one_out(self.alloc, RoomOut::Message(session, kind, payload))
+            }
+            Ok(ClientFrame::Raw(kind, payload)) => {
+                one_out(self.alloc, RoomOut::RawMessage(session, kind, payload))
+            }
+            Err(fault) => unread(self.alloc, session, fault),
         }
-        let client = &mut self.clients[at];
-        client.stage = acknowledged(client.stage);
-        Ok(Seq::new(self.alloc))
     }
 
     /// The connection of a session is lost at a moment: its seat is kept for its time, or the session ends. What was seen
@@ -80,6 +91,7 @@ impl Parts {
         let client = &mut self.clients[at];
         client.stage = Stage::Kept;
         client.view = view;
+        client.queue = Seq::new(self.alloc);
         Ok(outs)
     }
 
@@ -151,6 +163,16 @@ impl Parts {
     {
         self.places.leave(session).unwrap();
         self.clients.remove(at);
+    }
+}
+
+// What answers a frame that can't be read: an error. Want of memory is none.
+fn unread(alloc: Global, session: Id, fault: FrameFault) -> Result<RoomOuts, Memory>
+    ensures { UnreadTells session fault result }
+{
+    match fault {
+        FrameFault::Memory => Err(Memory),
+        _ => one_out(alloc, RoomOut::Send(session, unread_frame(alloc)?)),
     }
 }
 

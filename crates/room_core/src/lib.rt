@@ -7,6 +7,7 @@ mod edits;
 mod entering;
 mod frames;
 mod leaving;
+mod messages;
 mod parts;
 mod room;
 mod takes;

@@ -1,18 +1,18 @@
 //! A room.
-ghost use Rattle.std.specs.Prelude.{◌≡◌, ◌+◌, ◌≤◌, ◌&&◌, IfOk, IsTrue, OnErr, OnOk};
+ghost use Rattle.std.specs.Prelude.{◌≡◌, ◌+◌, ◌≤◌, IfOk, IsTrue, OnErr, OnOk};
 ghost use Rattle.room_model.specs.Room.{after_act, room_step};
 ghost use Rattle.room_laws.specs.Ordered.{Ordered};
 ghost use Rattle.room_laws.specs.Placed.{stage_of};
 ghost use Rattle.room_laws.specs.Places.{is_connected_in, may_act, may_happen};
-ghost use Rattle.room_like.specs.Taken.{is_taken, is_taken_act};
 ghost use Rattle.live_state.specs.Live.{schema_of};
 ghost use Rattle.room_core.specs.Costs.{act_cost, step_cost};
 ghost use Rattle.room_core.specs.Stands.{RoomStands};
 ghost use Rattle.room_core.specs.Values.{room_of};
 
 use crate::clients::has_connection;
+use crate::frames::{message_frame, raw_frame};
 use crate::parts::Parts;
-use crate::takes::{is_moment, is_taken_act, is_taken_frame, may_act};
+use crate::takes::{is_moment, may_act};
 use crate::view_edit::ViewEdit;
 use lists::Seq;
 use live_state::LiveState;
@@ -61,19 +61,17 @@ impl Room {
         self.parts.stage_of(session)
     }
 
-    /// Whether `step` takes an event now.
+    /// Whether an event may happen now: then `step` takes it.
     pub fn takes(&self, event: &RoomEvent) -> bool
-        ensures { result ≡ (may_happen self.now.room event.now && is_taken event.now) }
+        ensures { result ≡ may_happen self.now.room event.now }
     {
         match event {
             RoomEvent::Reserve(session, lapse) => is_moment(*lapse) && may_reserve(self, *session),
             RoomEvent::Enter(_, _, _) | RoomEvent::Tick => true,
-            RoomEvent::Frame(session, bytes) => {
-                self.is_connected(*session) && is_taken_frame(bytes.as_slice())
-            }
+            RoomEvent::Frame(session, _) => self.is_connected(*session),
             RoomEvent::Lost(session, now) => is_moment(*now) && self.is_connected(*session),
             RoomEvent::Moment(now) => is_moment(*now),
-            RoomEvent::Act(act) => may_act(act) && is_taken_act(act),
+            RoomEvent::Act(act) => may_act(act),
         }
     }
 
@@ -90,7 +88,6 @@ impl Room {
 
 impl RoomLike for Room {
     ghost use Rattle.room_model.specs.Room.{room_step};
-    ghost use Rattle.room_like.specs.Taken.{is_taken};
     ghost use Rattle.room_core.specs.Costs.{step_cost};
     ghost use Rattle.room_laws.specs.Ordered.{Ordered};
     ghost use Rattle.room_laws.proofs.Ordering.{new_ordered, step_ordered, step_tells, place_taken, places_within};
@@ -100,8 +97,6 @@ impl RoomLike for Room {
     ghost is_spent = { λ h. h.spent };
 
     ghost happens = { room_step };
-
-    ghost takes = { is_taken };
 
     ghost costs = { λ h e. step_cost h.room e };
 
@@ -182,7 +177,6 @@ fn happen<L: Ledger>(
     requires stands { RoomStands parts.old }
     requires order { Ordered (room_of parts.old) }
     requires happen { IsTrue (may_happen (room_of parts.old) event.now) }
-    requires takes { IsTrue (is_taken event.now) }
     ensures outs { IfOk result (λ outs. outs ≡ (room_step (room_of parts.old) event.now).1) }
     ensures room { OnOk result (room_of parts.new ≡ (room_step (room_of parts.old) event.now).0) }
     ensures stands { OnOk result (RoomStands parts.new) }
@@ -212,7 +206,6 @@ fn perform<L: Ledger>(
     requires stands { RoomStands parts.old }
     requires order { Ordered (room_of parts.old) }
     requires happen { IsTrue (may_act act.now) }
-    requires takes { IsTrue (is_taken_act act.now) }
     ensures outs { IfOk result (λ outs. outs ≡ (after_act (room_of parts.old) act.now).1) }
     ensures room { OnOk result (room_of parts.new ≡ (after_act (room_of parts.old) act.now).0) }
     ensures stands { OnOk result (RoomStands parts.new) }
@@ -227,6 +220,17 @@ fn perform<L: Ledger>(
         Act::Lock => Ok(parts.lock(true)),
         Act::Unlock => Ok(parts.lock(false)),
         Act::Keep(session, ms) => parts.set_keep(*session, *ms),
-        Act::Send(_, _, _) | Act::Raw(_, _, _) | Act::ToAll(_, _) => unreachable!(),
+        Act::Send(session, kind, payload) => {
+            let frame = message_frame(parts.alloc, kind, payload)?;
+            parts.send(*session, frame)
+        }
+        Act::Raw(session, kind, payload) => {
+            let frame = raw_frame(parts.alloc, kind, payload)?;
+            parts.send(*session, frame)
+        }
+        Act::ToAll(kind, payload) => {
+            let frame = message_frame(parts.alloc, kind, payload)?;
+            parts.send_all(&frame)
+        }
     }
 }

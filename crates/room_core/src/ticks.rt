@@ -1,5 +1,5 @@
 //! A tick: what each client is sent.
-ghost use Rattle.std.specs.Prelude.{◌≡◌, ◌+◌, ◌≤◌, ◌++◌, true, map, All, IfOk, OnErr, OnOk};
+ghost use Rattle.std.specs.Prelude.{◌≡◌, ◌+◌, ◌≤◌, ◌++◌, ◌∷◌, true, map, All, IfOk, OnErr, OnOk};
 ghost use Rattle.std.specs.List.{flat_map, sum_by};
 ghost use Rattle.instance_table.specs.Table.{TableState};
 ghost use Rattle.room_model.specs.Room.{after_tick, tick_outs};
@@ -10,11 +10,11 @@ ghost use Rattle.view_edits.specs.There.{are_there};
 ghost use Rattle.room_core.specs.Clients.{TellTheSame, client_tells};
 ghost use Rattle.room_core.specs.Costs.{session_cost, tick_cost};
 ghost use Rattle.room_core.specs.Stands.{CanSee, CanTick, ClientStands, RoomStands};
-ghost use Rattle.room_core.specs.Ticks.{AllThere, Ticks, client_swept, frame_where, sent_to, ticked_client};
+ghost use Rattle.room_core.specs.Ticks.{AllThere, Ticks, client_swept, frames_where, sent_to, ticked_client};
 ghost use Rattle.room_core.specs.Values.{room_of, session_of_client};
 ghost use Rattle.room_core.specs.declared.client.Client.{Client as Seen};
 
-use crate::client::Client;
+use crate::client::{Client, Frames};
 use crate::frames::{full_frame, patch_frame};
 use crate::parts::Parts;
 use lists::Seq;
@@ -23,6 +23,7 @@ use room_model::{RoomOut, RoomOuts, Stage};
 use schema_model::{Bytes, Id, Memory};
 use shared_encoder::encode_shared;
 use std::alloc::Global;
+use std::mem;
 use std::sync::ledger::Ledger;
 use steps::Steps;
 use view_counts::ViewCounts;
@@ -99,23 +100,23 @@ fn tick_all<L: Ledger>(
 {
     let mut outs = Seq::new(alloc);
     for client in clients.iter_mut() {
-        let frame = tick_one(alloc, live, shared, part, client, steps)?;
-        send_where(&mut outs, client.id, frame)?;
+        let frames = tick_one(alloc, live, shared, part, client, steps)?;
+        send_each(&mut outs, client.id, frames)?;
     }
     Ok(outs)
 }
 
-// A frame is sent to a session, where there is one.
-fn send_where(outs: &mut RoomOuts, session: Id, frame: Option<Bytes>) -> Result<(), Memory>
-    ensures { OnOk result (outs.new ≡ outs.old ++ sent_to session frame) }
+// Frames are sent to a session, one after another.
+fn send_each(outs: &mut RoomOuts, session: Id, frames: Frames) -> Result<(), Memory>
+    ensures { OnOk result (outs.new ≡ outs.old ++ sent_to session frames) }
 {
-    if let Some(frame) = frame {
+    for frame in frames.into_vec() {
         outs.push(RoomOut::Send(session, frame))?;
     }
     Ok(())
 }
 
-// The tick of a client: its frame, where it is sent one.
+// The tick of a client: the frames that it is sent. What waits for its full state comes behind it.
 fn tick_one<L: Ledger>(
     alloc: Global,
     live: &LiveState,
@@ -123,7 +124,7 @@ fn tick_one<L: Ledger>(
     part: &Blocks,
     client: &mut Client,
     steps: &mut Steps<L>,
-) -> Result<Option<Bytes>, Memory>
+) -> Result<Frames, Memory>
     requires { CanSee live.now shared.now part.now client.old }
     ensures ticks { IfOk result (Ticks live.now shared.now client.old client.new) }
     ensures told { client_tells client.new ≡ client_tells client.old }
@@ -135,7 +136,8 @@ fn tick_one<L: Ledger>(
             client.view.settle(live, &client.members, steps)?;
             client.members.end_tick();
             client.stage = Stage::Live;
-            Ok(Some(full_frame(alloc, &state)?))
+            let waiting = mem::replace(&mut client.queue, Seq::new(alloc));
+            in_front(full_frame(alloc, state)?, waiting)
         }
         Stage::Live => {
             client.view.settle(live, &client.members, steps)?;
@@ -149,21 +151,34 @@ fn tick_one<L: Ledger>(
                 steps,
             )?;
             client.members.end_tick();
-            where_changed(alloc, &state)
+            client.queue = Seq::new(alloc);
+            where_changed(alloc, state)
         }
         _ => {
             client.members.end_tick();
-            Ok(None)
+            Ok(Seq::new(alloc))
         }
     }
 }
 
-// The patch of state bytes, where there are some.
-fn where_changed(alloc: Global, state: &Bytes) -> Result<Option<Bytes>, Memory>
-    ensures { IfOk result (λ frame. frame ≡ frame_where state.now) }
+// A frame in front of others.
+fn in_front(frame: Bytes, others: Frames) -> Result<Frames, Memory>
+    ensures { IfOk result (λ frames. frames ≡ frame ∷ others) }
 {
-    if state.is_empty() {
-        return Ok(None);
+    let mut frames = others.into_vec();
+    match frames.insert(0, frame) {
+        Ok(()) => Ok(Seq::from_vec(frames)),
+        Err(_) => Err(Memory),
     }
-    Ok(Some(patch_frame(alloc, state)?))
+}
+
+// The patch of state bytes, where there are some.
+fn where_changed(alloc: Global, state: Bytes) -> Result<Frames, Memory>
+    ensures { IfOk result (λ frames. frames ≡ frames_where state) }
+{
+    let mut frames = Seq::new(alloc);
+    if !state.is_empty() {
+        frames.push(patch_frame(alloc, state)?)?;
+    }
+    Ok(frames)
 }

@@ -35,7 +35,7 @@ rest_alike e s es ss h = rest_same (entry_tells e) (session_tells s) (map entry_
 -- ---- what is found of a name
 
 -- the seat of a name
-abbrev found_seat : List SeatEntry → List ℕ → Option Seat
+abbrev pub found_seat : List SeatEntry → List ℕ → Option Seat
 found_seat es q = option_map (λ (e : SeatEntry). e.seat) (find (λ (e : SeatEntry). bytes_eq e.session q) es)
 
 told_at : (q : List ℕ) (es : List SeatEntry) (ss : List Session) → Alike es ss → option_map standing_of (found_seat es q) ≡ option_map standing (stage_of ss q)

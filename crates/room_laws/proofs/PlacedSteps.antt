@@ -3,7 +3,7 @@ use Rattle.std.proofs.Common.{◌≡◌, ℕ, Bool, true, false, not, cond, ◌&
 use Rattle.std.specs.Prelude.{nat_lt, IfOk}
 use Rattle.std.specs.Option.{option_map, option_map_or}
 use Rattle.std.specs.Str.{bytes_eq}
-use Rattle.std.proofs.lemmas.Bool.{and_parts}
+use Rattle.std.proofs.lemmas.Bool.{and_parts, not-true}
 use Rattle.lists.proofs.SameBytes.{same_bytes, bytes_eq_self, bytes_eq_sym}
 use Rattle.state_model.specs.Rows.{root_alone, is_live}
 use Rattle.state_model.specs.Members.{Members, no_members, view_added, view_removed, is_view_full}
@@ -25,7 +25,7 @@ use Rattle.room_model.specs.Room.{RoomValue, after_reserve, with_sessions, with_
 use Rattle.room_laws.specs.Placed.{Placed, AreDistinct, stands, stage_of, is_reserved, is_kept, standing, standing_of}
 use Rattle.room_laws.specs.Places.{has_place_for, is_moment, may_happen}
 use Rattle.room_laws.proofs.AlikeLists.{alike_more, alike_changed, alike_but, tells_mapped, tells_changed}
-use Rattle.room_laws.proofs.SessionLists.{named_key, session_mapped, session_changed, distinct_more, distinct_mapped, distinct_changed, distinct_but}
+use Rattle.room_laws.proofs.SessionLists.{named_key, session_mapped, session_changed, distinct_more, distinct_mapped, distinct_changed, distinct_but, nobody}
 
 -- ---- the stage of a session that is changed
 
@@ -47,19 +47,11 @@ changed_own id change ss s keeps found =
 
 -- ---- a reservation
 
-turned : (b : Bool) → not b ≡ true → b ≡ false
-turned true h = cc
-turned false h = refl
-
-nobody : (o : Option Session) → is_some o ≡ false → o ≡ None
-nobody (Some s) h = cc
-nobody None h = refl
-
 pub reserve_placed : (r : RoomValue) (session : List ℕ) (lapse : ℕ) → Placed r → may_happen r (event.Reserve session lapse) ≡ true → Placed (after_reserve r session lapse)
 reserve_placed r session lapse p h =
     let free = (and_parts (not r.seats.locked && not (is_full r.seats)) (not (is_some (session_of r.sessions session))) (and_parts (is_moment lapse) (has_place_for r session) h).1).1 in
     let mine : Session = record { id = session; stage = Reserved; members = no_members; permitted = root_alone r.schema; queue = []; keep = r.def.keep } in record {
-      distinct = distinct_more r.sessions mine p.distinct (nobody (session_of r.sessions session) (turned (is_some (session_of r.sessions session)) free));
+      distinct = distinct_more r.sessions mine p.distinct (nobody (session_of r.sessions session) (not-true (is_some (session_of r.sessions session)) free));
       alike = alike_more r.seats.entries r.sessions (record { session = session; seat = seat.Reserved lapse }) mine p.alike refl;
     }
 

@@ -3,7 +3,7 @@ use Rattle.std.proofs.Common.{◌≡◌, ℕ, zero, suc, ◌+◌, Bool, true, fa
 use Rattle.std.specs.Prelude.{nat_lt, nat_le, IfOk, IfSome}
 use Rattle.std.specs.List.{list_any, list_all, flat_map}
 use Rattle.std.specs.Option.{option_map, option_map_or, option_or}
-use Rattle.std.proofs.lemmas.Bool.{and_parts, and_from}
+use Rattle.std.proofs.lemmas.Bool.{and_parts, and_from, not-true}
 use Rattle.std.specs.Str.{bytes_eq}
 use Rattle.lists.proofs.SameBytes.{same_bytes, bytes_eq_self}
 use Rattle.schema_model.specs.Classes.{Schema}
@@ -473,11 +473,7 @@ first_waits ss (a ∷ others) h =
 waits_apart : (r : RoomValue) (session : List ℕ) → stands is_apart r.sessions session ≡ true → connected r session ≡ false
 waits_apart r session h =
     let found = there_at is_apart r.sessions session h in
-    stands_by is_connected r.sessions session found.0.stage (stage_is r.sessions session found.0 found.1) ∙ turned (is_connected found.0.stage) found.2
-  where
-    turned : (b : Bool) → not b ≡ true → b ≡ false
-    turned true h = cc
-    turned false h = refl
+    stands_by is_connected r.sessions session found.0.stage (stage_is r.sessions session found.0 found.1) ∙ not-true (is_connected found.0.stage) found.2
 
 expired_apart : (r : RoomValue) (now : ℕ) → Placed r → IfSome (expire r.seats now) (λ e. connected r e.0 ≡ false)
 expired_apart r now p = by_first (first_due (due_entries r.seats now)) (first_waits r.sessions (due_entries r.seats now) (all_wait now r.seats.entries r.sessions p.alike p.distinct))

@@ -1,7 +1,7 @@
 -- What each event leaves of a room's places.
 use Rattle.std.proofs.Common.{◌≡◌, ℕ, zero, suc, ◌+◌, Bool, true, false, not, cond, ◌&&◌, List, [], ◌∷◌, length, Option, Some, None, is_some, Result, Ok, Err, refl, ◌∙◌, zero-le, arith}
 use Rattle.std.specs.Prelude.{nat_lt, IfOk}
-use Rattle.std.proofs.lemmas.Bool.{and_parts, leb-false}
+use Rattle.std.proofs.lemmas.Bool.{and_parts, leb-false, not-true}
 use Rattle.std.proofs.lemmas.List.{length-append}
 use Rattle.state_model.specs.Reached.{times}
 use Rattle.state_model.specs.State.{State}
@@ -47,13 +47,9 @@ reserve_keeps r session lapse within h =
     let place : has_place_for r session ≡ true = (and_parts (is_moment lapse) (has_place_for r session) h).1 in
     let untaken : (not r.seats.locked && not (is_full r.seats)) ≡ true = (and_parts (not r.seats.locked && not (is_full r.seats)) (not (is_some (session_of r.sessions session))) place).0 in
     let parts : (not r.seats.locked ≡ true) × (not (is_full r.seats) ≡ true) = and_parts (not r.seats.locked) (not (is_full r.seats)) untaken in
-    let free : is_full r.seats ≡ false = turned (is_full r.seats) parts.1 in
+    let free : is_full r.seats ≡ false = not-true (is_full r.seats) parts.1 in
     let more = length-append r.seats.entries (record { session = session; seat = seat.Reserved lapse } ∷ []) in
     (omega (arith, leb-false r.seats.max (in_use r.seats) free), refl)
-  where
-    turned : (b : Bool) → not b ≡ true → b ≡ false
-    turned true h = cc
-    turned false h = refl
 
 -- ---- an opening
 

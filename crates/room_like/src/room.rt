@@ -6,7 +6,7 @@ ghost use Rattle.room_model.specs.Room.{new_room};
 ghost use Rattle.room_model.specs.Seats.{in_use as places_in_use};
 ghost use Rattle.room_model.specs.Sessions.{session_of};
 ghost use Rattle.room_laws.specs.Places.{may_happen};
-ghost use Rattle.room_like.specs.Taken.{is_worded_event};
+ghost use Rattle.room_like.specs.Worded.{is_worded_event};
 
 use room_model::{RoomDef, RoomEvent, RoomOuts, Texts};
 use schema_model::{Id, Memory, Schema};
@@ -35,9 +35,6 @@ pub trait RoomLike: Sized + Drop {
     /// Its step.
     ghost happens: { RoomValue → RoomEvent → RoomValue × List RoomOut };
 
-    /// The events that it takes.
-    ghost takes: { RoomEvent → Bool };
-
     /// How many steps its step takes at most, by what it keeps.
     ghost costs: { Self → RoomEvent → ℕ };
 
@@ -62,7 +59,6 @@ pub trait RoomLike: Sized + Drop {
         steps: &mut Steps<L>,
     ) -> Result<RoomOuts, Memory>
         requires happen { is_spent self.old ≡ false → IsTrue (may_happen (room self.old) event.now) }
-        requires takes { IsTrue (takes event.now) }
         ensures outs { IfOk result (λ outs. outs ≡ (happens (room self.old) event.now).1) }
         ensures after { OnOk result (room self.new ≡ (happens (room self.old) event.now).0) }
         ensures fresh { OnOk result (is_spent self.new ≡ false) }

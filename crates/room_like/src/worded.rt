@@ -1,6 +1,6 @@
 //! What the types of an event's parts say of the texts that it puts.
 ghost use Rattle.std.specs.Prelude.{IsTrue};
-ghost use Rattle.room_like.specs.Taken.{is_worded_event};
+ghost use Rattle.room_like.specs.Worded.{is_worded_event};
 
 use room_model::{Act, RoomEvent};
 use state_model::know_texts;

@@ -14,3 +14,6 @@ pub const KIND_BOUND: u64 = 1 << 32;
 
 /// The most keys by which the rooms of a definition may be told apart.
 pub const MOST_FILTERS: usize = 4;
+
+/// The most frames that wait for a client's full state.
+pub const MOST_QUEUED: usize = 256;

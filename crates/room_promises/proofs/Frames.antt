@@ -1,41 +1,55 @@
--- The frames of a client that are taken, and what each makes of a life that goes on: the acknowledgement, and the leave.
-use Rattle.std.proofs.Common.{◌≡◌, ℕ, Bool, true, false, cond, ◌&&◌, ◌||◌, List, [], ◌∷◌, ◌++◌, Option, Some, None, Ok, refl, sym, ap, subst}
+-- The frames of a client, and what each makes of a life that goes on, by what it is read as.
+use Rattle.std.proofs.Common.{◌≡◌, ℕ, Bool, true, false, cond, ◌&&◌, List, [], ◌∷◌, ◌++◌, Some, Result, Ok, Err, refl, sym, ap, subst, ◌∙◌}
 use Rattle.std.specs.List.{flat_map}
 use Rattle.std.specs.Str.{bytes_eq}
 use Rattle.lists.proofs.SameBytes.{same_bytes}
 use Rattle.schema_model.specs.Classes.{Schema}
 use Rattle.state_model.specs.declared.row.RowEntry.{RowEntry}
 use Rattle.state_model.specs.Shown.{shared}
+use Rattle.frame_model.specs.Reading.{read_client}
+use Rattle.frame_model.specs.declared.fault.FrameFault.{FrameFault}
+use Rattle.frame_model.specs.declared.frame.MsgKind.{MsgKind}
+use Rattle.frame_model.specs.declared.frame.ClientFrame.{ClientFrame}
 use Rattle.frame_model.specs.declared.frame.ClientFrame.TheVariants as client
 use Rattle.room_model.specs.declared.event.RoomOut.{RoomOut}
 use Rattle.room_model.specs.declared.event.RoomOut.TheVariants as out
 use Rattle.room_model.specs.declared.event.Stage.{Stage}
 use Rattle.room_model.specs.declared.event.Stage.TheVariants.{Reserved, Joining, Due, Live, Kept}
 use Rattle.room_model.specs.Sessions.{Session, session_of, change_session, is_connected, at_stage}
-use Rattle.room_model.specs.Room.{RoomValue, where_connected, after_read, after_frame, acknowledged, acknowledged_at}
-use Rattle.room_like.specs.Taken.{is_acknowledgement, is_leave, is_taken_frame}
-use Rattle.life_model.specs.Entries.{Entry, Record, Framed, Sending, Closing}
-use Rattle.life_model.specs.Lives.{entry_if, is_at, is_open}
-use Rattle.life_model.specs.Sent.{sent_for}
+use Rattle.room_model.specs.Room.{RoomValue, after_read, after_frame, acknowledged, acknowledged_at, unread_frame}
+use Rattle.life_model.specs.Entries.{Entry, Record, Framed, Sending, Frame, Closing}
+use Rattle.life_model.specs.Lives.{entry_if}
+use Rattle.life_model.specs.Sent as standing
+use Rattle.life_model.specs.Sent.{Standing, sent_for, sent_read, with_answer}
 use Rattle.room_promises.specs.RoomLives.{RoomLife, has_conn, given_by}
 use Rattle.room_promises.proofs.GoodLives.{held, standing_at, Fits, GoesOn}
+use Rattle.room_promises.proofs.GivenOwn.{sent_to}
 use Rattle.room_promises.proofs.EventCases.{where_cases}
-use Rattle.room_promises.proofs.LifeSteps.{recorded, fits_still, StepsOn, quiet, StepsGood, steps_good, ends_with, changed_here, changed_elsewhere, ended_own, ended_other, unheard, heard, overheard, one_session}
+use Rattle.room_promises.proofs.LifeSteps.{recorded, Pass, fits_answered, goes_with, quiet, StepsGood, steps_good, ends_with, changed_here, changed_elsewhere, ended_own, ended_other, unheard, heard, overheard, one_session}
 
--- the bytes of the acknowledgement
-abbrev ack : List ℕ
-ack = 10 ∷ []
+-- a record is sent for a frame what the standing is sent for what it is read as
+framed_sent : (schema : Schema) (st : Stage) (queue : List (List ℕ)) (sh permitted : List RowEntry) (bytes : List ℕ) (x : Result ClientFrame FrameFault) → is_connected st ≡ true → read_client bytes ≡ x
+    → sent_for schema (standing_at st queue sh permitted) (Framed bytes) ≡ sent_read (standing_at st queue sh permitted) x
+framed_sent schema Reserved queue sh permitted bytes x h is = cc
+framed_sent schema Joining queue sh permitted bytes x h is = ap (sent_read (standing_at Joining queue sh permitted)) is
+framed_sent schema Due queue sh permitted bytes x h is = ap (sent_read (standing_at Due queue sh permitted)) is
+framed_sent schema Live queue sh permitted bytes x h is = ap (sent_read (standing_at Live queue sh permitted)) is
+framed_sent schema Kept queue sh permitted bytes x h is = cc
 
--- the record of a session that it comes from
-fits_framed : (schema : Schema) (rows : List RowEntry) (st : Stage) (s : Session) (entries : Record) (outputs : List Sending) (view : List RowEntry)
-    → Fits schema rows (held (at_stage st s)) entries outputs view → Fits schema rows (held (acknowledged_at st (at_stage st s))) (entries ++ entry_if (is_open st) (Framed ack)) (outputs ++ []) view
-fits_framed schema rows Reserved s entries outputs view f = fits_still schema rows _ _ entries [] outputs [] view f refl refl refl
-fits_framed schema rows Kept s entries outputs view f = fits_still schema rows _ _ entries [] outputs [] view f refl refl refl
-fits_framed schema rows Joining s entries outputs view f = record { progress = recorded schema entries (Framed ack) _ f.progress; queue = f.queue; sees = tt }
-fits_framed schema rows Due s entries outputs view f = record { progress = recorded schema entries (Framed ack) _ f.progress; queue = f.queue; sees = tt }
-fits_framed schema rows Live s entries outputs view f =
-    let still = fits_still schema rows _ _ entries [] outputs [] view f refl refl refl in
-    record { progress = recorded schema entries (Framed ack) _ f.progress; queue = tt; sees = still.sees }
+-- the record of a session whose connection gives an acknowledgement
+fits_acknowledged : (schema : Schema) (rows : List RowEntry) (st : Stage) (s : Session) (bytes : List ℕ) (entries : Record) (outputs : List Sending) (view : List RowEntry) → is_connected st ≡ true
+    → read_client bytes ≡ Ok client.Ack → Fits schema rows (held (at_stage st s)) entries outputs view → Fits schema rows (held (acknowledged_at st (at_stage st s))) (entries ++ Framed bytes ∷ []) (outputs ++ []) view
+fits_acknowledged schema rows Reserved s bytes entries outputs view h is f = cc
+fits_acknowledged schema rows Joining s bytes entries outputs view h is f = record {
+  progress = recorded schema entries (Framed bytes) _ f.progress ∙ ap (with_answer outputs) (framed_sent schema Joining s.queue (shared schema rows) s.permitted bytes (Ok client.Ack) h is);
+  queue = f.queue;
+  sees = tt;
+}
+fits_acknowledged schema rows Due s bytes entries outputs view h is f =
+    fits_answered schema rows (held (at_stage Due s)) entries (Framed bytes) outputs [] view f (framed_sent schema Due s.queue (shared schema rows) s.permitted bytes (Ok client.Ack) h is) (λ frames. refl)
+fits_acknowledged schema rows Live s bytes entries outputs view h is f =
+    fits_answered schema rows (held (at_stage Live s)) entries (Framed bytes) outputs [] view f (framed_sent schema Live s.queue (shared schema rows) s.permitted bytes (Ok client.Ack) h is) (λ frames. refl)
+fits_acknowledged schema rows Kept s bytes entries outputs view h is f = cc
 
 pub acknowledged_name : (st : Stage) (s : Session) → (acknowledged_at st s).id ≡ s.id
 acknowledged_name Reserved s = refl
@@ -44,93 +58,100 @@ acknowledged_name Due s = refl
 acknowledged_name Live s = refl
 acknowledged_name Kept s = refl
 
--- the bytes of the leave
-abbrev leave : List ℕ
-leave = 12 ∷ []
+-- what a standing is sent for the other frames
+message_sent : (s : Standing) (kind : MsgKind) (payload : List ℕ) → sent_read s (Ok (client.Msg kind payload)) ≡ (s, [])
+message_sent (standing.Joining queue) kind payload = refl
+message_sent s kind payload = refl
 
--- what a record is sent for it
-leave_sent : (schema : Schema) (st : Stage) (queue : List (List ℕ)) (sh permitted : List RowEntry) → is_connected st ≡ true → (sent_for schema (standing_at st queue sh permitted) (Framed leave)).1 ≡ Closing 4000 ∷ []
-leave_sent schema Reserved queue sh permitted h = cc
-leave_sent schema Joining queue sh permitted h = refl
-leave_sent schema Due queue sh permitted h = refl
-leave_sent schema Live queue sh permitted h = refl
-leave_sent schema Kept queue sh permitted h = cc
+raw_sent : (s : Standing) (kind : MsgKind) (payload : List ℕ) → sent_read s (Ok (client.Raw kind payload)) ≡ (s, [])
+raw_sent (standing.Joining queue) kind payload = refl
+raw_sent s kind payload = refl
 
-module _ (schema : Schema) (rows : List RowEntry) (r : RoomValue) (l : RoomLife) (g : GoesOn schema rows r.sessions l) where
-  abbrev acknowledges : List ℕ → Option Session → RoomValue × List RoomOut
-  acknowledges id o = where_connected r o (λ s. after_read r id (Ok client.Ack))
+unread_sent : (s : Standing) (f : FrameFault) → sent_read s (Err f) ≡ (s, Frame unread_frame ∷ [])
+unread_sent (standing.Joining queue) f = refl
+unread_sent s f = refl
+
+leave_sent : (s : Standing) → (sent_read s (Ok client.Leave)).1 ≡ Closing 4000 ∷ []
+leave_sent (standing.Joining queue) = refl
+leave_sent s = refl
+
+module _ (schema : Schema) (rows : List RowEntry) (r : RoomValue) (l : RoomLife) (g : GoesOn schema rows r.sessions l) (id bytes : List ℕ) where
+  -- what is recorded of it
+  abbrev framing : List Entry
+  framing = entry_if (bytes_eq id l.session && has_conn r l.session) (Framed bytes)
+
+  -- how far the record is
+  abbrev standing_now : Standing
+  standing_now = standing_at g.session.stage g.session.queue (shared schema rows) g.session.permitted
 
   keeps : (q : List ℕ) (s : Session) → bytes_eq s.id q ≡ true → (acknowledged s).id ≡ s.id
   keeps q s e = acknowledged_name s.stage s
 
-  -- where another session's connection gives it
-  elsewhere : (id : List ℕ) (o : Option Session) → bytes_eq id l.session ≡ false → StepsOn schema rows (acknowledges id o) [] l
-  elsewhere id None apart = quiet schema rows r.sessions (r, []) [] l g g.session g.there refl refl refl
-  elsewhere id (Some s) apart =
-      let go : (b : Bool) → StepsOn schema rows (cond b (after_read r id (Ok client.Ack)) (r, [])) [] l = elim [
-        | true ↦ quiet schema rows r.sessions (after_read r id (Ok client.Ack)) [] l g g.session (changed_elsewhere id l.session acknowledged r.sessions g.session (keeps id) apart g.there) refl refl refl
-        | false ↦ quiet schema rows r.sessions (r, []) [] l g g.session g.there refl refl refl
-      ] in go (is_connected s.stage)
+  -- what is given: a closing, or the answer to what can't be read, where it is the session's own
+  closings : (b : Bool) → bytes_eq id l.session ≡ b → flat_map (given_by l.session) (out.Close id 4000 ∷ out.Left id ∷ []) ≡ cond b (Closing 4000 ∷ []) []
+  closings true e = ap (λ b. cond b (Closing 4000 ∷ []) [] ++ []) e
+  closings false e = ap (λ b. cond b (Closing 4000 ∷ []) [] ++ []) e
 
-  -- where its own does
-  own : (st : Stage) → g.session.stage ≡ st → StepsOn schema rows (cond (is_connected st) (after_read r l.session (Ok client.Ack)) (r, [])) (entry_if (is_open st) (Framed ack)) l
-  own st is = by_stage st is
+  answers : (b : Bool) → bytes_eq id l.session ≡ b → flat_map (given_by l.session) (out.Send id unread_frame ∷ []) ≡ cond b (Frame unread_frame ∷ []) []
+  answers b e = sent_to l.session id (unread_frame ∷ []) ∙ ap (λ b. cond b (Frame unread_frame ∷ []) []) e
+
+  -- ---- where its own connection gives it
+
+  -- a frame that leaves the session as it is
+  stays_on : (x : Result ClientFrame FrameFault) (outs : List RoomOut) (os : List Sending) → read_client bytes ≡ x → is_connected g.session.stage ≡ true → framing ≡ Framed bytes ∷ []
+      → flat_map (given_by l.session) outs ≡ os → sent_read standing_now x ≡ (standing_now, os) → Pass os → StepsGood schema rows (r, outs) framing l
+  stays_on x outs os is on one given answer pass =
+      steps_good schema rows (r, outs) framing l
+      (goes_with schema rows (r, outs) framing (Framed bytes ∷ []) os l g.session g.there one given
+      (fits_answered schema rows (held g.session) l.entries (Framed bytes) l.outputs os l.view g.fits
+      (framed_sent schema g.session.stage g.session.queue (shared schema rows) g.session.permitted bytes x on is ∙ answer) pass))
+
+  own : (x : Result ClientFrame FrameFault) → read_client bytes ≡ x → bytes_eq id l.session ≡ true → is_connected g.session.stage ≡ true → framing ≡ Framed bytes ∷ [] → StepsGood schema rows (after_read r id x) framing l
+  own (Ok client.Ack) is e on one =
+      let now : session_of (change_session id acknowledged r.sessions) l.session ≡ Some (acknowledged g.session) =
+      subst (λ n. session_of (change_session n acknowledged r.sessions) l.session ≡ Some (acknowledged g.session)) (sym (same_bytes id l.session e))
+      (changed_here l.session acknowledged r.sessions g.session (keeps l.session) g.there) in
+      steps_good schema rows (after_read r id (Ok client.Ack)) framing l
+      (goes_with schema rows (after_read r id (Ok client.Ack)) framing (Framed bytes ∷ []) [] l (acknowledged g.session) now one refl
+      (fits_acknowledged schema rows g.session.stage g.session bytes l.entries l.outputs l.view on is g.fits))
+  own (Ok client.Leave) is e on one =
+      ends_with schema rows r.sessions (after_read r id (Ok client.Leave)) framing (Framed bytes) (Closing 4000 ∷ []) l g (ended_own r id l.session e) one (closings true e)
+      (ap (λ (a : Standing × List Sending). a.1) (framed_sent schema g.session.stage g.session.queue (shared schema rows) g.session.permitted bytes (Ok client.Leave) on is) ∙ leave_sent standing_now)
+  own (Ok (client.Msg kind payload)) is e on one =
+      stays_on (Ok (client.Msg kind payload)) (out.Message id kind payload ∷ []) [] is on one refl (message_sent standing_now kind payload) (λ frames. refl)
+  own (Ok (client.Raw kind payload)) is e on one =
+      stays_on (Ok (client.Raw kind payload)) (out.RawMessage id kind payload ∷ []) [] is on one refl (raw_sent standing_now kind payload) (λ frames. refl)
+  own (Err f) is e on one = stays_on (Err f) (out.Send id unread_frame ∷ []) (Frame unread_frame ∷ []) is on one (answers true e) (unread_sent standing_now f) (λ frames. refl)
+
+  -- ---- where another session's does
+
+  unchanged : (x : Result ClientFrame FrameFault) → bytes_eq id l.session ≡ false → session_of (after_read r id x).0.sessions l.session ≡ Some g.session
+  unchanged (Ok client.Ack) e = changed_elsewhere id l.session acknowledged r.sessions g.session (keeps id) e g.there
+  unchanged (Ok client.Leave) e = ended_other r id l.session g.session e g.there
+  unchanged (Ok (client.Msg kind payload)) e = g.there
+  unchanged (Ok (client.Raw kind payload)) e = g.there
+  unchanged (Err f) e = g.there
+
+  ungiven : (x : Result ClientFrame FrameFault) → bytes_eq id l.session ≡ false → flat_map (given_by l.session) (after_read r id x).1 ≡ []
+  ungiven (Ok client.Ack) e = refl
+  ungiven (Ok client.Leave) e = closings false e
+  ungiven (Ok (client.Msg kind payload)) e = refl
+  ungiven (Ok (client.Raw kind payload)) e = refl
+  ungiven (Err f) e = answers false e
+
+  -- ---- any frame
+
+  pub frame_on : StepsGood schema rows (after_frame r id bytes) framing l
+  frame_on =
+      where_cases (λ x. StepsGood schema rows x framing l) r (session_of r.sessions id) (λ s. after_read r id (read_client bytes))
+      (λ off. steps_good schema rows (r, []) framing l (quiet schema rows r.sessions (r, []) framing l g g.session g.there refl (unheard r id l.session (Framed bytes) off) refl))
+      (λ s found on. by_name s found on (bytes_eq id l.session) refl)
     where
-      framed : (st : Stage) → g.session.stage ≡ st → Fits schema rows (held (acknowledged g.session)) (l.entries ++ entry_if (is_open st) (Framed ack)) (l.outputs ++ []) l.view
-      framed st is = subst (λ st. Fits schema rows (held (acknowledged g.session)) (l.entries ++ entry_if (is_open st) (Framed ack)) (l.outputs ++ []) l.view) is (fits_framed schema rows g.session.stage g.session l.entries l.outputs l.view g.fits)
-
-      now : session_of (change_session l.session acknowledged r.sessions) l.session ≡ Some (acknowledged g.session)
-      now = changed_here l.session acknowledged r.sessions g.session (keeps l.session) g.there
-
-      by_stage : (st : Stage) → g.session.stage ≡ st → StepsOn schema rows (cond (is_connected st) (after_read r l.session (Ok client.Ack)) (r, [])) (entry_if (is_open st) (Framed ack)) l
-      by_stage Reserved is = quiet schema rows r.sessions (r, []) [] l g g.session g.there refl refl refl
-      by_stage Kept is = quiet schema rows r.sessions (r, []) [] l g g.session g.there refl refl refl
-      by_stage Joining is = record { session = acknowledged g.session; there = now; fits = framed Joining is }
-      by_stage Due is = record { session = acknowledged g.session; there = now; fits = framed Due is }
-      by_stage Live is = record { session = acknowledged g.session; there = now; fits = framed Live is }
-
-  acknowledged_on : (id : List ℕ) → StepsOn schema rows (after_frame r id ack) (entry_if (bytes_eq id l.session && has_conn r l.session) (Framed ack)) l
-  acknowledged_on id = by_name (bytes_eq id l.session) refl
-    where
-      by_name : (b : Bool) → bytes_eq id l.session ≡ b → StepsOn schema rows (after_frame r id ack) (entry_if (b && has_conn r l.session) (Framed ack)) l
-      by_name true e =
-          subst (λ n. StepsOn schema rows (acknowledges n (session_of r.sessions n)) (entry_if (has_conn r l.session) (Framed ack)) l) (sym (same_bytes id l.session e))
-          (subst (λ o. StepsOn schema rows (acknowledges l.session o) (entry_if (is_at is_open o) (Framed ack)) l) (sym g.there) (own g.session.stage refl))
-      by_name false e = elsewhere id (session_of r.sessions id) e
-
-  pub frame_on : (id bytes : List ℕ) → is_acknowledgement bytes ≡ true → StepsOn schema rows (after_frame r id bytes) (entry_if (bytes_eq id l.session && has_conn r l.session) (Framed bytes)) l
-  frame_on id bytes is = subst (λ bs. StepsOn schema rows (after_frame r id bs) (entry_if (bytes_eq id l.session && has_conn r l.session) (Framed bs)) l) (sym (same_bytes bytes ack is)) (acknowledged_on id)
-
-  -- ---- a leave
-
-  -- what it gives: a closing, where it is the session's own
-  closings : (id : List ℕ) (b : Bool) → bytes_eq id l.session ≡ b → flat_map (given_by l.session) (out.Close id 4000 ∷ out.Left id ∷ []) ≡ cond b (Closing 4000 ∷ []) []
-  closings id true e = ap (λ b. cond b (Closing 4000 ∷ []) [] ++ []) e
-  closings id false e = ap (λ b. cond b (Closing 4000 ∷ []) [] ++ []) e
-
-  left_on : (id : List ℕ) → StepsGood schema rows (after_frame r id leave) (entry_if (bytes_eq id l.session && has_conn r l.session) (Framed leave)) l
-  left_on id =
-      where_cases (λ x. StepsGood schema rows x entries l) r (session_of r.sessions id) (λ s. after_read r id (Ok client.Leave))
-      (λ off. steps_good schema rows (r, []) entries l (quiet schema rows r.sessions (r, []) entries l g g.session g.there refl (unheard r id l.session (Framed leave) off) refl))
-      (λ s found is. by_name s found is (bytes_eq id l.session) refl)
-    where
-      entries : List Entry
-      entries = entry_if (bytes_eq id l.session && has_conn r l.session) (Framed leave)
-
-      by_name : (s : Session) → session_of r.sessions id ≡ Some s → is_connected s.stage ≡ true → (b : Bool) → bytes_eq id l.session ≡ b → StepsGood schema rows (after_read r id (Ok client.Leave)) entries l
-      by_name s found is true e =
+      by_name : (s : Session) → session_of r.sessions id ≡ Some s → is_connected s.stage ≡ true → (b : Bool) → bytes_eq id l.session ≡ b → StepsGood schema rows (after_read r id (read_client bytes)) framing l
+      by_name s found on true e =
           let one : s ≡ g.session = one_session r.sessions id l.session s g.session e found g.there in
-          ends_with schema rows r.sessions (after_read r id (Ok client.Leave)) entries (Framed leave) (Closing 4000 ∷ []) l g (ended_own r id l.session e) (heard r id l.session s (Framed leave) e found is) (closings id true e)
-          (leave_sent schema g.session.stage g.session.queue (shared schema rows) g.session.permitted (subst (λ (s : Session). is_connected s.stage ≡ true) one is))
-      by_name s found is false e =
-          steps_good schema rows (after_read r id (Ok client.Leave)) entries l
-          (quiet schema rows r.sessions (after_read r id (Ok client.Leave)) entries l g g.session (ended_other r id l.session g.session e g.there) refl (overheard r id l.session (Framed leave) e) (closings id false e))
-
-  -- ---- a frame that is taken
-
-  pub taken_on : (id bytes : List ℕ) → is_taken_frame bytes ≡ true → StepsGood schema rows (after_frame r id bytes) (entry_if (bytes_eq id l.session && has_conn r l.session) (Framed bytes)) l
-  taken_on id bytes is = by_kind (is_acknowledgement bytes) refl is
-    where
-      by_kind : (b : Bool) → is_acknowledgement bytes ≡ b → (b || is_leave bytes) ≡ true → StepsGood schema rows (after_frame r id bytes) (entry_if (bytes_eq id l.session && has_conn r l.session) (Framed bytes)) l
-      by_kind true e h = steps_good schema rows (after_frame r id bytes) (entry_if (bytes_eq id l.session && has_conn r l.session) (Framed bytes)) l (frame_on id bytes e)
-      by_kind false e h = subst (λ bs. StepsGood schema rows (after_frame r id bs) (entry_if (bytes_eq id l.session && has_conn r l.session) (Framed bs)) l) (sym (same_bytes bytes leave h)) (left_on id)
+          own (read_client bytes) refl e (subst (λ (s : Session). is_connected s.stage ≡ true) one on) (heard r id l.session s (Framed bytes) e found on)
+      by_name s found on false e =
+          let x : RoomValue × List RoomOut = after_read r id (read_client bytes) in
+          steps_good schema rows x framing l
+          (quiet schema rows r.sessions x framing l g g.session (unchanged (read_client bytes) e) refl (overheard r id l.session (Framed bytes) e) (ungiven (read_client bytes) e))

@@ -5,6 +5,7 @@ use Rattle.std.specs.Option.{option_map_or}
 use Rattle.std.specs.Str.{bytes_eq}
 use Rattle.std.proofs.lemmas.Grind.{flat_map-append}
 use Rattle.lists.proofs.SameBytes.{same_bytes}
+use Rattle.room_model.specs.declared.event.RoomOut.{RoomOut}
 use Rattle.room_model.specs.declared.event.RoomOut.TheVariants as out
 use Rattle.room_model.specs.Sessions.{Session, session_of}
 use Rattle.room_laws.specs.Placed.{AreDistinct}
@@ -19,13 +20,13 @@ sent_to q id (f ∷ fs) =
     ap (λ os. cond (bytes_eq id q) (Frame f ∷ []) [] ++ os) (sent_to q id fs) ∙ go (bytes_eq id q)
 
 -- where each session is sent frames of its own, each is given its own
-pub own_frames : (q : List ℕ) (frames : Session → List (List ℕ)) (ss : List Session) → AreDistinct ss
-    → flat_map (given_by q) (flat_map (λ (s : Session). map (out.Send s.id) (frames s)) ss) ≡ option_map_or (λ (s : Session). map Frame (frames s)) (session_of ss q) []
-own_frames q frames [] d = refl
-own_frames q frames (s ∷ ss) d =
-    flat_map-append (given_by q) (map (out.Send s.id) (frames s)) (flat_map (λ (s : Session). map (out.Send s.id) (frames s)) ss)
-    ∙ (ap (λ os. os ++ flat_map (given_by q) (flat_map (λ (s : Session). map (out.Send s.id) (frames s)) ss)) (sent_to q s.id (frames s))
-    ∙ (ap (λ os. cond (bytes_eq s.id q) (map Frame (frames s)) [] ++ os) (own_frames q frames ss d.1)
+pub own_frames : (q : List ℕ) (gives : Session → List RoomOut) (frames : Session → List (List ℕ)) (ss : List Session) → ((s : Session) → gives s ≡ map (out.Send s.id) (frames s)) → AreDistinct ss
+    → flat_map (given_by q) (flat_map gives ss) ≡ option_map_or (λ (s : Session). map Frame (frames s)) (session_of ss q) []
+own_frames q gives frames [] sends d = refl
+own_frames q gives frames (s ∷ ss) sends d =
+    flat_map-append (given_by q) (gives s) (flat_map gives ss)
+    ∙ (ap (λ os. os ++ flat_map (given_by q) (flat_map gives ss)) (ap (flat_map (given_by q)) (sends s) ∙ sent_to q s.id (frames s))
+    ∙ (ap (λ os. cond (bytes_eq s.id q) (map Frame (frames s)) [] ++ os) (own_frames q gives frames ss sends d.1)
     ∙ by_name (bytes_eq s.id q) refl))
   where
     own : Option Session → List Sending

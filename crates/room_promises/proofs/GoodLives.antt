@@ -34,10 +34,14 @@ standing_at stage.Due queue shared permitted = standing.Due queue
 standing_at stage.Live queue shared permitted = standing.Live shared permitted
 standing_at stage.Kept queue shared permitted = standing.Kept
 
--- what waits are no state frames
+-- a frame that is no state frame
+abbrev pub IsMessage : List ℕ → Type 0
+IsMessage frame = (frames : List (List ℕ)) → with_sending frames (Frame frame) ≡ frames
+
+-- so are those that wait
 abbrev pub AreMessages : List (List ℕ) → Type 0
 AreMessages [] = Unit {0}
-AreMessages (f ∷ fs) = ((frames : List (List ℕ)) → with_sending frames (Frame f) ≡ frames) × AreMessages fs
+AreMessages (f ∷ fs) = IsMessage f × AreMessages fs
 
 abbrev pub QueueFits : Stage → List (List ℕ) → Type 0
 QueueFits stage.Reserved queue = queue ≡ []

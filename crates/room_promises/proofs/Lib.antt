@@ -7,7 +7,9 @@ pub mod Frames
 pub mod Losses
 pub mod Lapses
 pub mod Kicks
+pub mod Acts
 pub mod Edits
+pub mod Messages
 pub mod TickFits
 pub mod TickSteps
 pub mod StateFacts

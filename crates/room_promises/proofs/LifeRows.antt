@@ -1,15 +1,16 @@
 -- Examples: lives of a room, with what each records and is given; worked out by hand.
-use Rattle.std.specs.Prelude.{◌≡◌, ℕ, Bool, true, false, List, [], ◌∷◌, map, Some, None, codes, refl}
+use Rattle.std.specs.Prelude.{◌≡◌, ℕ, Bool, true, false, List, [], ◌∷◌, map, pos, Some, None, codes, refl}
 use Rattle.state_model.specs.declared.row.RowEntry.{RowEntry}
 use Rattle.state_model.specs.declared.row.Row.TheVariants.{Struct}
 use Rattle.state_model.proofs.Examples as ex
 use Rattle.wire_model.proofs.Opened.{reading}
+use Rattle.frame_model.specs.declared.frame.MsgKind.TheVariants as kind
 use Rattle.room_model.specs.declared.definition.RoomDef.{RoomDef}
 use Rattle.room_model.specs.declared.event.Act.TheVariants as act
 use Rattle.room_model.specs.declared.event.RoomEvent.{RoomEvent}
 use Rattle.room_model.specs.declared.event.RoomEvent.TheVariants as event
-use Rattle.room_model.specs.Room.{join_frame}
-use Rattle.life_model.specs.Entries.{Record, Opened, Framed, Ticked, Dropped, Kicked, Lapsed, Sending, Frame, Closing}
+use Rattle.room_model.specs.Room.{join_frame, unread_frame}
+use Rattle.life_model.specs.Entries.{Record, Opened, Framed, Told, Ticked, Dropped, Kicked, Lapsed, Sending, Frame, Closing}
 use Rattle.life_model.specs.Sent.{full_frame}
 use Rattle.room_promises.specs.RoomLives.{RoomLife, room_run}
 use Rattle.room_promises.specs.RoomPromises.{CanPlay}
@@ -55,7 +56,7 @@ left_and_back = event.Reserve a 15000 ∷ event.Enter a None first ∷ event.Fra
 
 left_can : CanPlay purse def [] left_and_back
 unfolding reading
-left_can = record { schema_kept = refl; follow = refl; taken = refl; worded = refl }
+left_can = record { schema_kept = refl; follow = refl; worded = refl }
 
 left_go_on : go_on left_and_back ≡ false ∷ true ∷ []
 left_go_on = refl
@@ -75,7 +76,7 @@ lapsed_twice =
 
 lapsed_can : CanPlay purse def [] lapsed_twice
 unfolding reading
-lapsed_can = record { schema_kept = refl; follow = refl; taken = refl; worded = refl }
+lapsed_can = record { schema_kept = refl; follow = refl; worded = refl }
 
 lapsed_go_on : go_on lapsed_twice ≡ false ∷ false ∷ []
 lapsed_go_on = refl
@@ -98,7 +99,7 @@ back_again =
 
 back_can : CanPlay purse def [] back_again
 unfolding reading
-back_can = record { schema_kept = refl; follow = refl; taken = refl; worded = refl }
+back_can = record { schema_kept = refl; follow = refl; worded = refl }
 
 back_goes_on : go_on back_again ≡ true ∷ []
 back_goes_on = refl
@@ -121,7 +122,7 @@ kicked_twice =
 
 kicked_can : CanPlay purse def [] kicked_twice
 unfolding reading
-kicked_can = record { schema_kept = refl; follow = refl; taken = refl; worded = refl }
+kicked_can = record { schema_kept = refl; follow = refl; worded = refl }
 
 kicked_go_on : go_on kicked_twice ≡ false ∷ false ∷ false ∷ []
 kicked_go_on = refl
@@ -131,3 +132,34 @@ kicked_records = refl
 
 kicked_given : given kicked_twice ≡ [] ∷ (Frame (join_frame first) ∷ Closing 4002 ∷ []) ∷ (Frame (join_frame second) ∷ []) ∷ []
 kicked_given = refl
+
+-- ---- messages: those told before the full state wait for it, and later ones are sent at once; a frame that can't be read is answered
+
+abbrev first_told : List ℕ
+first_told = 13 ∷ 7 ∷ 192 ∷ []
+
+abbrev then_told : List ℕ
+then_told = 13 ∷ 162 ∷ 104 ∷ 105 ∷ []
+
+abbrev last_told : List ℕ
+last_told = 17 ∷ 1 ∷ 250 ∷ 251 ∷ []
+
+abbrev told_and_asked : List RoomEvent
+told_and_asked =
+    event.Reserve a 15000 ∷ event.Act (act.ToAll (kind.Num (pos 3)) []) ∷ event.Enter a None first
+    ∷ event.Act (act.Send a (kind.Num (pos 7)) (192 ∷ [])) ∷ event.Frame a ack ∷ event.Act (act.ToAll (kind.Name (codes "hi")) [])
+    ∷ event.Frame a (13 ∷ 5 ∷ []) ∷ event.Frame a (13 ∷ []) ∷ event.Tick ∷ event.Act (act.Raw a (kind.Num (pos 1)) (250 ∷ 251 ∷ [])) ∷ []
+
+told_can : CanPlay purse def [] told_and_asked
+unfolding reading
+told_can = record { schema_kept = refl; follow = refl; worded = refl }
+
+told_records : records told_and_asked
+    ≡ (Opened first ∷ Told first_told ∷ Framed ack ∷ Told then_told ∷ Framed (13 ∷ 5 ∷ []) ∷ Framed (13 ∷ []) ∷ Ticked start start ∷ Told last_told ∷ []) ∷ []
+unfolding reading
+told_records = refl
+
+told_given : given told_and_asked
+    ≡ (Frame (join_frame first) ∷ Frame unread_frame ∷ Frame (full_frame purse start start) ∷ Frame first_told ∷ Frame then_told ∷ Frame last_told ∷ []) ∷ []
+unfolding reading
+told_given = refl

@@ -1,6 +1,6 @@
 -- A life that goes on, over an event: nothing new of it, one entry more, or its end.
 use Rattle.std.proofs.Common.{◌≡◌, ℕ, Bool, true, false, not, cond, ◌&&◌, List, [], ◌∷◌, ◌++◌, Option, Some, None, is_some, refl, sym, ap, subst, ◌∙◌, append-nil}
-use Rattle.std.specs.List.{flat_map}
+use Rattle.std.specs.List.{flat_map, fold}
 use Rattle.std.specs.Option.{option_map}
 use Rattle.std.specs.Str.{bytes_eq}
 use Rattle.std.proofs.lemmas.List.Sums.{fold-append}
@@ -8,6 +8,7 @@ use Rattle.lists.proofs.SameBytes.{same_bytes, bytes_eq_self, bytes_eq_sym}
 use Rattle.schema_model.specs.Classes.{Schema}
 use Rattle.state_model.specs.declared.row.RowEntry.{RowEntry}
 use Rattle.state_model.specs.Shown.{shared}
+use Rattle.wire_model.specs.Decoded.{seen}
 use Rattle.room_model.specs.declared.event.RoomOut.{RoomOut}
 use Rattle.room_model.specs.declared.event.Stage.{Stage}
 use Rattle.room_model.specs.declared.event.Stage.TheVariants as stage
@@ -16,9 +17,10 @@ use Rattle.room_model.specs.Room.{RoomValue, ended}
 use Rattle.room_laws.proofs.SessionLists.{named_key, named_but, session_changed}
 use Rattle.life_model.specs.Entries.{Entry, Record, Sending}
 use Rattle.life_model.specs.Lives.{entry_if, is_at, is_open}
-use Rattle.life_model.specs.Sent.{Progress, progress_of, after_entry, life_start, sent, sent_for}
+use Rattle.life_model.specs.Promises.{with_sending, latest_frames}
+use Rattle.life_model.specs.Sent.{Progress, progress_of, with_answer, after_entry, life_start, sent, sent_for}
 use Rattle.room_promises.specs.RoomLives.{RoomLife, is_in, has_conn, given_by}
-use Rattle.room_promises.proofs.GoodLives.{Held, held, standing_at, Fits, GoesOn, GoodLife, good_life, with_more}
+use Rattle.room_promises.proofs.GoodLives.{Held, held, standing_at, SeesAt, Fits, GoesOn, GoodLife, good_life, with_more}
 
 -- ---- records
 
@@ -39,11 +41,49 @@ fits_still schema rows h k entries es outputs os view f same no_entry no_output 
     (subst (λ e. Fits schema rows h e (outputs ++ os) view) (sym (ap (λ e. entries ++ e) no_entry ∙ append-nil entries))
     (subst (λ o. Fits schema rows h entries o view) (sym (ap (λ o. outputs ++ o) no_output ∙ append-nil outputs)) f))
 
+-- sendings among which is no state frame
+abbrev pub Pass : List Sending → Type 0
+Pass os = (frames : List (List ℕ)) → fold with_sending frames os ≡ frames
+
+-- what is seen stays as it is behind them
+sees_still : (st : Stage) (schema : Schema) (rows : List RowEntry) (h : Held) (outputs os : List Sending) (view : List RowEntry) → Pass os → SeesAt st schema rows h outputs view → SeesAt st schema rows h (outputs ++ os) view
+sees_still stage.Reserved schema rows h outputs os view pass s = tt
+sees_still stage.Joining schema rows h outputs os view pass s = tt
+sees_still stage.Due schema rows h outputs os view pass s = tt
+sees_still stage.Live schema rows h outputs os view pass s = record {
+  is_permitted = s.is_permitted;
+  is_view = s.is_view;
+  is_free = s.is_free;
+  decodes = ap (seen schema) (fold-append with_sending [] outputs os ∙ pass (latest_frames outputs)) ∙ s.decodes;
+}
+sees_still stage.Kept schema rows h outputs os view pass s = tt
+
+-- an entry more whose answer leaves the session as it is
+pub fits_answered : (schema : Schema) (rows : List RowEntry) (h : Held) (entries : Record) (e : Entry) (outputs os : List Sending) (view : List RowEntry) → Fits schema rows h entries outputs view
+    → sent_for schema (standing_at h.stage h.queue (shared schema rows) h.permitted) e ≡ (standing_at h.stage h.queue (shared schema rows) h.permitted, os) → Pass os
+    → Fits schema rows h (entries ++ e ∷ []) (outputs ++ os) view
+fits_answered schema rows h entries e outputs os view f answer pass = record {
+  progress = recorded schema entries e _ f.progress ∙ ap (with_answer outputs) answer;
+  queue = f.queue;
+  sees = sees_still h.stage schema rows h outputs os view pass f.sees;
+}
+
 -- ---- a life
 
 -- a life goes on in the room behind an event that gives so much, with these entries more
 abbrev pub StepsOn : Schema → List RowEntry → RoomValue × List RoomOut → List Entry → RoomLife → Type 0
 StepsOn schema rows x es l = GoesOn schema rows x.0.sessions (with_more l (is_in x.0 l.session) es (flat_map (given_by l.session) x.1) l.view)
+
+-- an event with these entries and sendings more, behind which its session is this one
+pub goes_with : (schema : Schema) (rows : List RowEntry) (x : RoomValue × List RoomOut) (es fs : List Entry) (os : List Sending) (l : RoomLife) (s : Session) → session_of x.0.sessions l.session ≡ Some s
+    → es ≡ fs → flat_map (given_by l.session) x.1 ≡ os → Fits schema rows (held s) (l.entries ++ fs) (l.outputs ++ os) l.view → StepsOn schema rows x es l
+goes_with schema rows x es fs os l s there same given f = record {
+  session = s;
+  there = there;
+  fits =
+      subst (λ es. Fits schema rows (held s) (l.entries ++ es) (l.outputs ++ flat_map (given_by l.session) x.1) l.view) (sym same)
+      (subst (λ os. Fits schema rows (held s) (l.entries ++ fs) (l.outputs ++ os) l.view) (sym given) f);
+}
 
 -- an event that doesn't concern it
 pub quiet : (schema : Schema) (rows : List RowEntry) (ss : List Session) (x : RoomValue × List RoomOut) (es : List Entry) (l : RoomLife) (g : GoesOn schema rows ss l) (s : Session)

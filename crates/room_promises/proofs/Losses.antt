@@ -18,7 +18,7 @@ use Rattle.life_model.specs.Sent.{sent_for}
 use Rattle.room_promises.specs.RoomLives.{RoomLife, is_in, has_conn}
 use Rattle.room_promises.proofs.GoodLives.{held, standing_at, Fits, GoesOn}
 use Rattle.room_promises.proofs.EventCases.{loss_cases}
-use Rattle.room_promises.proofs.LifeSteps.{recorded, quiet, StepsGood, steps_good, ends_with, changed_here, changed_elsewhere, ended_own, ended_other, unheard, heard, overheard, one_session}
+use Rattle.room_promises.proofs.LifeSteps.{recorded, goes_with, quiet, StepsGood, steps_good, ends_with, changed_here, changed_elsewhere, ended_own, ended_other, unheard, heard, overheard, one_session}
 
 -- the record of a session whose seat is kept
 fits_dropped : (own schema : Schema) (rows : List RowEntry) (st : Stage) (s : Session) (entries : Record) (outputs : List Sending) (view : List RowEntry) → is_connected st ≡ true
@@ -56,13 +56,9 @@ module _ (schema : Schema) (rows : List RowEntry) (r : RoomValue) (l : RoomLife)
       subst (λ n. session_of (change_session n (dropped r.schema) r.sessions) l.session ≡ Some (dropped r.schema g.session)) (sym (same_bytes id l.session e))
       (changed_here l.session (dropped r.schema) r.sessions g.session (λ s e. refl) g.there) in
       let entries : losing (keeping lapse).0 ≡ Dropped true ∷ [] = heard r id l.session s (Dropped (is_in (keeping lapse).0 l.session)) e found is ∙ ap (λ o. Dropped (is_some o) ∷ []) there in
-      steps_good schema rows (keeping lapse) (losing (keeping lapse).0) l (record {
-        session = dropped r.schema g.session;
-        there = there;
-        fits =
-            subst (λ es. Fits schema rows (held (dropped r.schema g.session)) (l.entries ++ es) (l.outputs ++ []) l.view) (sym entries)
-            (fits_dropped r.schema schema rows g.session.stage g.session l.entries l.outputs l.view (subst (λ (s : Session). is_connected s.stage ≡ true) one is) g.fits);
-      })
+      steps_good schema rows (keeping lapse) (losing (keeping lapse).0) l
+      (goes_with schema rows (keeping lapse) (losing (keeping lapse).0) (Dropped true ∷ []) [] l (dropped r.schema g.session) there entries refl
+      (fits_dropped r.schema schema rows g.session.stage g.session l.entries l.outputs l.view (subst (λ (s : Session). is_connected s.stage ≡ true) one is) g.fits))
   drops s lapse found is false e =
       steps_good schema rows (keeping lapse) (losing (keeping lapse).0) l
       (quiet schema rows r.sessions (keeping lapse) (losing (keeping lapse).0) l g g.session (changed_elsewhere id l.session (dropped r.schema) r.sessions g.session (λ s e. refl) e g.there) refl

@@ -23,7 +23,7 @@ use Rattle.life_model.specs.Sent.{Progress}
 use Rattle.room_promises.specs.RoomLives.{RoomLife, has_conn, given_by}
 use Rattle.room_promises.proofs.GoodLives.{held, AreMessages, Fits, GoesOn}
 use Rattle.room_promises.proofs.EventCases.{enter_cases}
-use Rattle.room_promises.proofs.LifeSteps.{recorded, unopened, StepsOn, quiet, changed_here, changed_elsewhere}
+use Rattle.room_promises.proofs.LifeSteps.{recorded, unopened, StepsOn, goes_with, quiet, changed_here, changed_elsewhere}
 
 -- a session without a connection
 abbrev pub is_at_rest : Stage → Bool
@@ -116,15 +116,8 @@ module _ (schema : Schema) (rows : List RowEntry) (r : RoomValue) (l : RoomLife)
           let rest : is_at_rest g.session.stage ≡ true = rests g.session (ap (session_of r.sessions) same ∙ g.there) in
           let closed : has_conn r l.session ≡ false = ap (is_at is_open) g.there ∙ rests_closed g.session.stage rest in
           let entries : opening fresh after.0 ≡ Opened fresh ∷ [] = ap₂ (λ b c. entry_if (not b && c) (Opened fresh)) closed (ap (is_at is_open) now) in
-          let os : flat_map (given_by l.session) after.1 ≡ Frame (join_frame fresh) ∷ [] = outs true e in
-          record {
-            session = at_stage Joining g.session;
-            there = now;
-            fits =
-                subst (λ es. Fits schema rows (held (at_stage Joining g.session)) (l.entries ++ es) (l.outputs ++ flat_map (given_by l.session) after.1) l.view) (sym entries)
-                (subst (λ os. Fits schema rows (held (at_stage Joining g.session)) (l.entries ++ Opened fresh ∷ []) (l.outputs ++ os) l.view) (sym os)
-                (fits_opened schema rows g.session.stage g.session fresh l.entries l.outputs l.view rest g.fits));
-          }
+          goes_with schema rows after (opening fresh after.0) (Opened fresh ∷ []) (Frame (join_frame fresh) ∷ []) l (at_stage Joining g.session) now entries (outs true e)
+          (fits_opened schema rows g.session.stage g.session fresh l.entries l.outputs l.view rest g.fits)
       by_name false e =
           let now : session_of after.0.sessions l.session ≡ Some g.session = changed_elsewhere session l.session (at_stage Joining) r.sessions g.session (λ s e. refl) e g.there in
           quiet schema rows r.sessions after (opening fresh after.0) l g g.session now refl

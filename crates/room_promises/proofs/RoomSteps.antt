@@ -8,23 +8,25 @@ use Rattle.state_model.specs.State.{State, new_state, swept}
 use Rattle.state_model.specs.Shown.{shared}
 use Rattle.state_model.specs.Commands.{do_command}
 use Rattle.state_model.specs.Worded.{is_worded_command}
+use Rattle.frame_model.specs.Frames.{server_bytes}
 use Rattle.frame_model.specs.Reading.{read_client}
 use Rattle.frame_model.specs.declared.fault.FrameFault.{FrameFault}
 use Rattle.frame_model.specs.declared.frame.ClientFrame.{ClientFrame}
 use Rattle.frame_model.specs.declared.frame.ClientFrame.TheVariants as client
+use Rattle.frame_model.specs.declared.frame.ServerFrame.TheVariants as server
 use Rattle.room_model.specs.declared.definition.RoomDef.{RoomDef}
 use Rattle.room_model.specs.declared.event.Act.TheVariants as act
 use Rattle.room_model.specs.declared.event.RoomEvent.{RoomEvent}
 use Rattle.room_model.specs.declared.event.RoomEvent.TheVariants as event
 use Rattle.room_model.specs.declared.refusal.Refusal.{Refusal}
-use Rattle.room_model.specs.Sessions.{Acted, session_of, view_added_to, view_removed_from, keep_set}
+use Rattle.room_model.specs.Sessions.{Acted, session_of, told_to, view_added_to, view_removed_from, keep_set}
 use Rattle.room_model.specs.Room.{RoomValue, new_room, room_step, after_read, after_frame, after_enter, after_loss, after_moment, after_kick, after_answer, acted_on}
 use Rattle.room_laws.specs.Ledgers.{Within}
 use Rattle.room_laws.specs.Placed.{Placed}
 use Rattle.room_laws.specs.Places.{may_happen}
 use Rattle.room_laws.proofs.RoomPlaces.{step_keeps}
 use Rattle.room_laws.proofs.RoomPlaced.{step_placed, new_placed}
-use Rattle.room_like.specs.Taken.{is_taken, is_worded_event}
+use Rattle.room_like.specs.Worded.{is_worded_event}
 use Rattle.room_promises.proofs.EventCases.{enter_cases, where_cases, loss_cases, moment_cases, kick_cases}
 use Rattle.room_promises.proofs.StateFacts.{GoodStates, new_states, command_states, swept_states}
 
@@ -119,23 +121,25 @@ tick_good schema last r g = record {
 
 -- ---- any event but a tick
 
-pub step_good : (schema : Schema) (last : State) (r : RoomValue) (e : RoomEvent) → is_kept schema ≡ true → is_tick e ≡ false → is_taken e ≡ true → is_worded_event e ≡ true → may_happen r e ≡ true → GoodRoom schema last r
+pub step_good : (schema : Schema) (last : State) (r : RoomValue) (e : RoomEvent) → is_kept schema ≡ true → is_tick e ≡ false → is_worded_event e ≡ true → may_happen r e ≡ true → GoodRoom schema last r
     → GoodRoom schema last (room_step r e).0
-step_good schema last r e kept other taken words may g = by_event e other taken words (step_placed r e g.placed may) (step_keeps r e g.within may).0
+step_good schema last r e kept other words may g = by_event e other words (step_placed r e g.placed may) (step_keeps r e g.within may).0
   where
-    by_event : (e : RoomEvent) → is_tick e ≡ false → is_taken e ≡ true → is_worded_event e ≡ true → Placed (room_step r e).0 → Within (room_step r e).0.seats → GoodRoom schema last (room_step r e).0
-    by_event (event.Reserve session lapse) other taken words placed within = stays_good schema last r _ g placed within (record { schema = refl; state = refl; shared = refl })
-    by_event (event.Enter session token fresh) other taken words placed within = stays_good schema last r _ g placed within (same_entered r session token fresh)
-    by_event (event.Frame session bytes) other taken words placed within = stays_good schema last r _ g placed within (same_framed r session bytes)
-    by_event (event.Lost session now) other taken words placed within = stays_good schema last r _ g placed within (same_lost r session now)
-    by_event (event.Moment now) other taken words placed within = stays_good schema last r _ g placed within (same_lapsed r now)
-    by_event (event.Act (act.State c)) other taken words placed within =
+    by_event : (e : RoomEvent) → is_tick e ≡ false → is_worded_event e ≡ true → Placed (room_step r e).0 → Within (room_step r e).0.seats → GoodRoom schema last (room_step r e).0
+    by_event (event.Reserve session lapse) other words placed within = stays_good schema last r _ g placed within (record { schema = refl; state = refl; shared = refl })
+    by_event (event.Enter session token fresh) other words placed within = stays_good schema last r _ g placed within (same_entered r session token fresh)
+    by_event (event.Frame session bytes) other words placed within = stays_good schema last r _ g placed within (same_framed r session bytes)
+    by_event (event.Lost session now) other words placed within = stays_good schema last r _ g placed within (same_lost r session now)
+    by_event (event.Moment now) other words placed within = stays_good schema last r _ g placed within (same_lapsed r now)
+    by_event (event.Act (act.State c)) other words placed within =
         answered_good schema last r c (do_command r.schema r.state c) kept words g (ap (λ s. do_command s r.state c) (sym g.schema_is)) placed within
-    by_event (event.Act (act.ViewAdd id pair)) other taken words placed within = stays_good schema last r _ g placed within (same_acted r id (option_map (view_added_to r.schema r.state.rows pair) (session_of r.sessions id)))
-    by_event (event.Act (act.ViewDel id pair)) other taken words placed within = stays_good schema last r _ g placed within (same_acted r id (option_map (view_removed_from r.schema r.state.rows pair) (session_of r.sessions id)))
-    by_event (event.Act (act.Kick id code)) other taken words placed within = stays_good schema last r _ g placed within (same_kicked r id code)
-    by_event (event.Act act.Lock) other taken words placed within = stays_good schema last r _ g placed within (record { schema = refl; state = refl; shared = refl })
-    by_event (event.Act act.Unlock) other taken words placed within = stays_good schema last r _ g placed within (record { schema = refl; state = refl; shared = refl })
-    by_event (event.Act (act.Keep id ms)) other taken words placed within = stays_good schema last r _ g placed within (same_acted r id (option_map (keep_set ms) (session_of r.sessions id)))
-    by_event event.Tick other taken words placed within = cc
-    by_event e other taken words placed within = cc
+    by_event (event.Act (act.ViewAdd id pair)) other words placed within = stays_good schema last r _ g placed within (same_acted r id (option_map (view_added_to r.schema r.state.rows pair) (session_of r.sessions id)))
+    by_event (event.Act (act.ViewDel id pair)) other words placed within = stays_good schema last r _ g placed within (same_acted r id (option_map (view_removed_from r.schema r.state.rows pair) (session_of r.sessions id)))
+    by_event (event.Act (act.Send id kind payload)) other words placed within = stays_good schema last r _ g placed within (same_acted r id (option_map (told_to (server_bytes (server.Msg kind payload))) (session_of r.sessions id)))
+    by_event (event.Act (act.Raw id kind payload)) other words placed within = stays_good schema last r _ g placed within (same_acted r id (option_map (told_to (server_bytes (server.Raw kind payload))) (session_of r.sessions id)))
+    by_event (event.Act (act.ToAll kind payload)) other words placed within = stays_good schema last r _ g placed within (record { schema = refl; state = refl; shared = refl })
+    by_event (event.Act (act.Kick id code)) other words placed within = stays_good schema last r _ g placed within (same_kicked r id code)
+    by_event (event.Act act.Lock) other words placed within = stays_good schema last r _ g placed within (record { schema = refl; state = refl; shared = refl })
+    by_event (event.Act act.Unlock) other words placed within = stays_good schema last r _ g placed within (record { schema = refl; state = refl; shared = refl })
+    by_event (event.Act (act.Keep id ms)) other words placed within = stays_good schema last r _ g placed within (same_acted r id (option_map (keep_set ms) (session_of r.sessions id)))
+    by_event event.Tick other words placed within = cc

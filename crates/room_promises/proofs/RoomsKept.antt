@@ -1,4 +1,4 @@
--- Rooms keep their promises, over every list of events that they take.
+-- Rooms keep their promises, over every list of events that may happen.
 use Rattle.std.proofs.Common.{◌≡◌, ◌≤◌, true, List, [], ◌∷◌, Ok, refl, sym, ap, subst, ◌∙◌}
 use Rattle.std.specs.List.{fold}
 use Rattle.std.proofs.lemmas.Bool.{and_parts}
@@ -57,7 +57,7 @@ run_room x (e ∷ es) = run_room (run_step x e) es
 pub rooms_keep : RoomsKeep
 rooms_keep schema def criteria events can =
     good_keeps schema def (room_run schema def criteria events)
-    (runs_good schema (record { room = new_room schema def criteria; lives = [] }) events can.schema_kept can.taken can.worded can.follow
+    (runs_good schema (record { room = new_room schema def criteria; lives = [] }) events can.schema_kept can.worded can.follow
     (record { last = new_state schema; room = new_good schema def criteria can.schema_kept; lives = All-nil _ }))
     (subst (λ (r : RoomValue). in_use r.seats ≤ r.seats.max) (sym (run_room (record { room = new_room schema def criteria; lives = [] }) events)) (rooms_keep_places schema def criteria events can.follow))
 

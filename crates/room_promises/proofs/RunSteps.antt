@@ -1,5 +1,5 @@
 -- What holds of a run at each point holds after each event, and after every list of them.
-use Rattle.std.proofs.Common.{◌≡◌, ℕ, Bool, true, false, cond, List, [], ◌∷◌, ◌++◌, map, All, Option, Some, None, is_some, refl, sym, ap, subst, ◌∙◌}
+use Rattle.std.proofs.Common.{◌≡◌, ℕ, Bool, true, false, cond, List, [], ◌∷◌, ◌++◌, map, All, Some, None, refl, sym, ap, subst, ◌∙◌}
 use Rattle.std.specs.List.{flat_map, fold, list_all}
 use Rattle.std.specs.Option.{option_or}
 use Rattle.std.specs.Str.{bytes_eq}
@@ -13,6 +13,8 @@ use Rattle.state_model.specs.State.{State, swept}
 use Rattle.state_model.specs.Members.{no_members}
 use Rattle.state_model.specs.Shown.{shared}
 use Rattle.state_model.specs.Commands.{do_command}
+use Rattle.frame_model.specs.Frames.{server_bytes}
+use Rattle.frame_model.specs.declared.frame.ServerFrame.TheVariants as server
 use Rattle.room_model.specs.declared.event.Act.TheVariants as act
 use Rattle.room_model.specs.declared.event.RoomEvent.{RoomEvent}
 use Rattle.room_model.specs.declared.event.RoomEvent.TheVariants as event
@@ -21,16 +23,18 @@ use Rattle.room_model.specs.Ledger.{set_locked}
 use Rattle.room_model.specs.Sessions.{Session, session_of, view_added_to, view_removed_from, keep_set}
 use Rattle.room_model.specs.Room.{RoomValue, room_step}
 use Rattle.room_laws.specs.Places.{may_happen, may_follow}
-use Rattle.room_laws.proofs.SessionLists.{named_more}
-use Rattle.room_like.specs.Taken.{is_taken, is_worded_event}
+use Rattle.room_laws.proofs.PlacedSteps.{added_stays, removed_stays, keep_stays}
+use Rattle.room_laws.proofs.SessionLists.{named_more, nobody}
+use Rattle.room_like.specs.Worded.{is_worded_event}
 use Rattle.room_promises.specs.RoomLives.{RoomLife, RoomRun, is_in, room_entries, given_by, view_after, lived, new_life, begun, run_step}
 use Rattle.room_promises.proofs.GoodLives.{GoesOn, GoodLife, good_life, with_more}
 use Rattle.room_promises.proofs.Openings.{enter_on}
-use Rattle.room_promises.proofs.Frames.{taken_on}
+use Rattle.room_promises.proofs.Frames.{frame_on}
 use Rattle.room_promises.proofs.Losses.{loss_on}
 use Rattle.room_promises.proofs.Lapses.{moment_on}
 use Rattle.room_promises.proofs.Kicks.{kick_on}
 use Rattle.room_promises.proofs.Edits.{edit_on, added_edits, removed_edits, keep_edits, command_on, seats_on, reserve_on}
+use Rattle.room_promises.proofs.Messages.{told_on, all_told_on}
 use Rattle.room_promises.proofs.TickFits.{TickDecodes}
 use Rattle.room_promises.proofs.TickSteps.{tick_on}
 use Rattle.room_promises.proofs.TickBytes.{tick_decodes}
@@ -73,28 +77,30 @@ life_ticked schema last r l kept room g =
     steps = subst (λ s. GoesOn s last.rows r.sessions l → GoesOn s (swept r.state).rows (room_step r event.Tick).0.sessions (stepped r event.Tick l)) room.schema_is own
 
 -- and behind any other event
-life_stepped : (schema : Schema) (last : State) (r : RoomValue) (e : RoomEvent) (l : RoomLife) → is_tick e ≡ false → is_taken e ≡ true → GoodRoom schema last r → GoodLife schema last.rows r.sessions l
+life_stepped : (schema : Schema) (last : State) (r : RoomValue) (e : RoomEvent) (l : RoomLife) → is_tick e ≡ false → GoodRoom schema last r → GoodLife schema last.rows r.sessions l
     → GoodLife schema last.rows (room_step r e).0.sessions (lived r e (room_step r e) l)
-life_stepped schema last r e l other taken room g = life_lived schema last.rows last.rows r e l g (λ on. by_event e other taken on)
+life_stepped schema last r e l other room g = life_lived schema last.rows last.rows r e l g (λ on. by_event e other on)
   where
     goes_good : (e : RoomEvent) → GoesOn schema last.rows (room_step r e).0.sessions (stepped r e l) → GoodLife schema last.rows (room_step r e).0.sessions (stepped r e l)
     goes_good e on = good_life schema last.rows (room_step r e).0.sessions (stepped r e l) on
 
-    by_event : (e : RoomEvent) → is_tick e ≡ false → is_taken e ≡ true → GoesOn schema last.rows r.sessions l → GoodLife schema last.rows (room_step r e).0.sessions (stepped r e l)
-    by_event (event.Reserve session lapse) other taken on = goes_good (event.Reserve session lapse) (reserve_on schema last.rows r l on session lapse)
-    by_event (event.Enter session token fresh) other taken on = goes_good (event.Enter session token fresh) (enter_on schema last.rows r l on session token fresh room.placed)
-    by_event (event.Frame session bytes) other taken on = taken_on schema last.rows r l on session bytes taken
-    by_event (event.Lost session now) other taken on = loss_on schema last.rows r l on session now
-    by_event (event.Moment now) other taken on = moment_on schema last.rows r l on now
-    by_event (event.Act (act.State c)) other taken on = goes_good (event.Act (act.State c)) (command_on schema last.rows r l on (do_command r.schema r.state c))
-    by_event (event.Act (act.ViewAdd id pair)) other taken on = goes_good (event.Act (act.ViewAdd id pair)) (edit_on schema last.rows r l on id (view_added_to r.schema r.state.rows pair) (added_edits r.schema r.state.rows pair))
-    by_event (event.Act (act.ViewDel id pair)) other taken on = goes_good (event.Act (act.ViewDel id pair)) (edit_on schema last.rows r l on id (view_removed_from r.schema r.state.rows pair) (removed_edits r.schema r.state.rows pair))
-    by_event (event.Act (act.Kick id code)) other taken on = kick_on schema last.rows r l on id code
-    by_event (event.Act act.Lock) other taken on = goes_good (event.Act act.Lock) (seats_on schema last.rows r l on (set_locked r.seats true))
-    by_event (event.Act act.Unlock) other taken on = goes_good (event.Act act.Unlock) (seats_on schema last.rows r l on (set_locked r.seats false))
-    by_event (event.Act (act.Keep id ms)) other taken on = goes_good (event.Act (act.Keep id ms)) (edit_on schema last.rows r l on id (keep_set ms) (keep_edits ms))
-    by_event event.Tick other taken on = cc
-    by_event e other taken on = cc
+    by_event : (e : RoomEvent) → is_tick e ≡ false → GoesOn schema last.rows r.sessions l → GoodLife schema last.rows (room_step r e).0.sessions (stepped r e l)
+    by_event (event.Reserve session lapse) other on = goes_good (event.Reserve session lapse) (reserve_on schema last.rows r l on session lapse)
+    by_event (event.Enter session token fresh) other on = goes_good (event.Enter session token fresh) (enter_on schema last.rows r l on session token fresh room.placed)
+    by_event (event.Frame session bytes) other on = frame_on schema last.rows r l on session bytes
+    by_event (event.Lost session now) other on = loss_on schema last.rows r l on session now
+    by_event (event.Moment now) other on = moment_on schema last.rows r l on now
+    by_event (event.Act (act.State c)) other on = goes_good (event.Act (act.State c)) (command_on schema last.rows r l on (do_command r.schema r.state c))
+    by_event (event.Act (act.ViewAdd id pair)) other on = goes_good (event.Act (act.ViewAdd id pair)) (edit_on schema last.rows r l on id (view_added_to r.schema r.state.rows pair) (added_stays r.schema r.state.rows pair) (added_edits r.schema r.state.rows pair))
+    by_event (event.Act (act.ViewDel id pair)) other on = goes_good (event.Act (act.ViewDel id pair)) (edit_on schema last.rows r l on id (view_removed_from r.schema r.state.rows pair) (removed_stays r.schema r.state.rows pair) (removed_edits r.schema r.state.rows pair))
+    by_event (event.Act (act.Send id kind payload)) other on = goes_good (event.Act (act.Send id kind payload)) (told_on schema last.rows r l on (server_bytes (server.Msg kind payload)) (λ frames. refl) id)
+    by_event (event.Act (act.Raw id kind payload)) other on = goes_good (event.Act (act.Raw id kind payload)) (told_on schema last.rows r l on (server_bytes (server.Raw kind payload)) (λ frames. refl) id)
+    by_event (event.Act (act.ToAll kind payload)) other on = goes_good (event.Act (act.ToAll kind payload)) (all_told_on schema last.rows r l on (server_bytes (server.Msg kind payload)) (λ frames. refl) room.placed.distinct)
+    by_event (event.Act (act.Kick id code)) other on = kick_on schema last.rows r l on id code
+    by_event (event.Act act.Lock) other on = goes_good (event.Act act.Lock) (seats_on schema last.rows r l on (set_locked r.seats true))
+    by_event (event.Act act.Unlock) other on = goes_good (event.Act act.Unlock) (seats_on schema last.rows r l on (set_locked r.seats false))
+    by_event (event.Act (act.Keep id ms)) other on = goes_good (event.Act (act.Keep id ms)) (edit_on schema last.rows r l on id (keep_set ms) (keep_stays ms) (keep_edits ms))
+    by_event event.Tick other on = cc
 
 -- a life that begins
 life_begun : (schema : Schema) (rows : List RowEntry) (r : RoomValue) (session : List ℕ) (lapse : ℕ) → is_in r session ≡ false
@@ -103,10 +109,6 @@ life_begun schema rows r session lapse new = good_life schema rows _ _ (record {
   where
     mine : Session
     mine = record { id = session; stage = Reserved; members = no_members; permitted = root_alone r.schema; queue = []; keep = r.def.keep }
-
-    nobody : (o : Option Session) → is_some o ≡ false → o ≡ None
-    nobody (Some s) h = cc
-    nobody None h = refl
 
     there : session_of (room_step r (event.Reserve session lapse)).0.sessions session ≡ Some mine
     there =
@@ -130,16 +132,16 @@ lives_begun schema rows r e = All-nil _
 
 -- ---- an event
 
-pub run_steps : (schema : Schema) (x : RoomRun) (e : RoomEvent) → is_kept schema ≡ true → is_taken e ≡ true → is_worded_event e ≡ true → may_happen x.room e ≡ true → GoodRun schema x → GoodRun schema (run_step x e)
-run_steps schema x e kept taken words may g = by_tick (is_tick e) refl
+pub run_steps : (schema : Schema) (x : RoomRun) (e : RoomEvent) → is_kept schema ≡ true → is_worded_event e ≡ true → may_happen x.room e ≡ true → GoodRun schema x → GoodRun schema (run_step x e)
+run_steps schema x e kept words may g = by_tick (is_tick e) refl
   where
     other : is_tick e ≡ false → GoodRun schema (run_step x e)
     other no_tick = record {
       last = g.last;
-      room = step_good schema g.last x.room e kept no_tick taken words may g.room;
+      room = step_good schema g.last x.room e kept no_tick words may g.room;
       lives =
           all_lived (GoodLife schema g.last.rows (room_step x.room e).0.sessions) (lived x.room e (room_step x.room e)) x.lives (begun x.room e)
-          (λ k d h. life_stepped schema g.last x.room e _ no_tick taken g.room (g.lives k d h)) (lives_begun schema g.last.rows x.room e);
+          (λ k d h. life_stepped schema g.last x.room e _ no_tick g.room (g.lives k d h)) (lives_begun schema g.last.rows x.room e);
     }
 
     ticks : (e : RoomEvent) → is_tick e ≡ true → GoodRun schema (run_step x e)
@@ -158,10 +160,9 @@ run_steps schema x e kept taken words may g = by_tick (is_tick e) refl
 
 -- ---- a list of events
 
-pub runs_good : (schema : Schema) (x : RoomRun) (es : List RoomEvent) → is_kept schema ≡ true → list_all is_taken es ≡ true → list_all is_worded_event es ≡ true → may_follow x.room es ≡ true → GoodRun schema x → GoodRun schema (fold run_step x es)
-runs_good schema x [] kept taken words may g = g
-runs_good schema x (e ∷ es) kept taken words may g =
-    let t = and_parts (is_taken e) (list_all is_taken es) taken in
+pub runs_good : (schema : Schema) (x : RoomRun) (es : List RoomEvent) → is_kept schema ≡ true → list_all is_worded_event es ≡ true → may_follow x.room es ≡ true → GoodRun schema x → GoodRun schema (fold run_step x es)
+runs_good schema x [] kept words may g = g
+runs_good schema x (e ∷ es) kept words may g =
     let w = and_parts (is_worded_event e) (list_all is_worded_event es) words in
     let m = and_parts (may_happen x.room e) (may_follow (room_step x.room e).0 es) may in
-    runs_good schema (run_step x e) es kept t.1 w.1 m.1 (run_steps schema x e kept t.0 w.0 m.0 g)
+    runs_good schema (run_step x e) es kept w.1 m.1 (run_steps schema x e kept w.0 m.0 g)

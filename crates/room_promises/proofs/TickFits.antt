@@ -26,7 +26,7 @@ use Rattle.life_model.specs.Promises.{with_sending, latest_frames}
 use Rattle.life_model.specs.Sent as standing
 use Rattle.life_model.specs.Sent.{Standing, Progress, progress_of, after_entry}
 use Rattle.room_promises.proofs.GoodLives.{held, AreMessages, Fits, Sees}
-use Rattle.room_promises.proofs.LifeSteps.{recorded}
+use Rattle.room_promises.proofs.LifeSteps.{recorded, Pass}
 
 -- the bytes of a tick's frames are decoded to what is permitted, and where a frame has no operation the rows are that
 pub record TickDecodes (schema : Schema) (before after : List RowEntry) : Type 0 where
@@ -48,13 +48,13 @@ decoded_free schema bytes rows new h = by_end (read_blocks schema rows bytes).fa
         subst (λ (l : List RowEntry). freed l ≡ l) is (freed_freed rows)
 
 -- messages are no state frames
-messages_pass : (frames queue : List (List ℕ)) → AreMessages queue → fold with_sending frames (map Frame queue) ≡ frames
-messages_pass frames [] m = refl
-messages_pass frames (f ∷ fs) m = ap (λ x. fold with_sending x (map Frame fs)) (m.0 frames) ∙ messages_pass frames fs m.1
+messages_pass : (queue : List (List ℕ)) → AreMessages queue → Pass (map Frame queue)
+messages_pass [] m frames = refl
+messages_pass (f ∷ fs) m frames = ap (λ x. fold with_sending x (map Frame fs)) (m.0 frames) ∙ messages_pass fs m.1 frames
 
 -- frames with a full state behind them, and what waited for it, begin anew
 full_latest : (outputs : List Sending) (bytes : List ℕ) (queue : List (List ℕ)) → AreMessages queue → latest_frames (outputs ++ Frame (14 ∷ bytes) ∷ map Frame queue) ≡ (14 ∷ bytes) ∷ []
-full_latest outputs bytes queue m = fold-append with_sending [] outputs (Frame (14 ∷ bytes) ∷ map Frame queue) ∙ messages_pass ((14 ∷ bytes) ∷ []) queue m
+full_latest outputs bytes queue m = fold-append with_sending [] outputs (Frame (14 ∷ bytes) ∷ map Frame queue) ∙ messages_pass queue m ((14 ∷ bytes) ∷ [])
 
 -- frames with a patch behind them
 patch_latest : (outputs : List Sending) (bytes : List ℕ) → latest_frames (outputs ++ Frame (15 ∷ bytes) ∷ []) ≡ latest_frames outputs ++ (15 ∷ bytes) ∷ []

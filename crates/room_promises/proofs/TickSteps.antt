@@ -10,7 +10,7 @@ use Rattle.room_model.specs.declared.event.RoomEvent.TheVariants as event
 use Rattle.room_model.specs.declared.event.Stage.{Stage}
 use Rattle.room_model.specs.declared.event.Stage.TheVariants.{Reserved, Joining, Due, Live, Kept}
 use Rattle.room_model.specs.Sessions.{Session, session_of}
-use Rattle.room_model.specs.Room.{RoomValue, after_tick, frames_at, ticked_at, session_swept}
+use Rattle.room_model.specs.Room.{RoomValue, after_tick, tick_outs, frames_at, ticked_at, session_swept}
 use Rattle.room_laws.specs.Placed.{AreDistinct}
 use Rattle.room_laws.proofs.SessionLists.{session_mapped, distinct_mapped}
 use Rattle.life_model.specs.Entries.{Ticked, Frame}
@@ -59,7 +59,7 @@ swept_of r q s there = session_mapped q (session_swept (ticked_rows r)) r.sessio
 -- what a session's connection is given by a tick
 pub tick_given : (r : RoomValue) (q : List ℕ) (s : Session) → AreDistinct r.sessions → session_of r.sessions q ≡ Some s → flat_map (given_by q) (after_tick r).1 ≡ map Frame (frames_now r r.shared (clean_of r s))
 tick_given r q s distinct there =
-    own_frames q (frames_now r r.shared) (map (session_swept (ticked_rows r)) r.sessions) (distinct_mapped (session_swept (ticked_rows r)) r.sessions (λ s. refl) distinct)
+    own_frames q (tick_outs r.schema r.shared (ticked_rows r)) (frames_now r r.shared) (map (session_swept (ticked_rows r)) r.sessions) (λ s. refl) (distinct_mapped (session_swept (ticked_rows r)) r.sessions (λ s. refl) distinct)
     ∙ ap (λ o. option_map_or (λ (s : Session). map Frame (frames_now r r.shared s)) o []) (swept_of r q s there)
 
 module _ (before : List RowEntry) (r : RoomValue) (l : RoomLife) (g : GoesOn r.schema before r.sessions l) (distinct : AreDistinct r.sessions) (was : r.shared ≡ shared r.schema before)

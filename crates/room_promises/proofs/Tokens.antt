@@ -26,6 +26,7 @@ use Rattle.room_model.specs.Ledger.{has_as_token, keep_of}
 use Rattle.room_model.specs.Sessions.{Acted, session_of, told_to, view_added_to, view_removed_from, keep_set}
 use Rattle.room_model.specs.Room.{RoomValue, room_step, after_read, after_act, after_answer, accepted, acted_on}
 use Rattle.room_promises.proofs.EventCases.{enter_cases, where_cases, loss_cases, moment_cases, kick_cases}
+use Rattle.room_laws.proofs.AlikeLists.{found_seat}
 
 -- ---- whose a token is
 
@@ -37,10 +38,6 @@ Owned token session (e ∷ es) = (has_as_token token e.seat ≡ true → e.sessi
 -- each token is one session's
 abbrev pub OneEach : List SeatEntry → Type 0
 OneEach es = (token : List ℕ) → (session : List ℕ) × Owned token session es
-
--- what is found of a name
-abbrev pub found_seat : List SeatEntry → List ℕ → Option Seat
-found_seat es q = option_map (λ (e : SeatEntry). e.seat) (find (λ (e : SeatEntry). bytes_eq e.session q) es)
 
 found_first : (e : SeatEntry) (s : Seat) → Some e.seat ≡ Some s → e.seat ≡ s
 found_first e s h = cc

@@ -60,7 +60,7 @@ without_gold = ex.row 0 (Struct 0 (ex.field 0 (value.Whole (pos 5)) ∷ [])) ∷
 -- the promises speak of such a run
 two_come : CanPlay purse def [] events
 unfolding reading
-two_come = record { schema_kept = refl; follow = refl; taken = refl; worded = refl }
+two_come = record { schema_kept = refl; follow = refl; worded = refl }
 
 both_are_live : map (is_live run.room) run.lives ≡ true ∷ true ∷ []
 both_are_live = refl

@@ -1,4 +1,4 @@
--- Clients that come back to a kept seat, after every list of events that a room takes: what they find, and what is gone.
+-- Clients that come back to a kept seat, after every list of events that may happen to a room: what they find, and what is gone.
 -- Ours.
 use Rattle.std.specs.Prelude.{◌≡◌, ℕ, Bool, true, false, List, [], ◌∷◌, Some}
 use Rattle.std.specs.List.{flat_map, list_any}

@@ -1,4 +1,4 @@
--- The three promises of a room, after every list of events that it takes: each client decodes exactly what it may see,
+-- The three promises of a room, after every list of events that may happen: each client decodes exactly what it may see,
 -- what a life is given depends on the schema and its record alone, and the room never passes its places. Ours.
 use Rattle.std.specs.Prelude.{◌≡◌, ℕ, ◌≤◌, true, List, Contains, Ok}
 use Rattle.std.specs.List.{list_all}
@@ -9,7 +9,7 @@ use Rattle.room_model.specs.declared.event.RoomEvent.{RoomEvent}
 use Rattle.room_model.specs.Seats.{in_use}
 use Rattle.room_model.specs.Room.{new_room}
 use Rattle.room_laws.specs.Places.{may_follow}
-use Rattle.room_like.specs.Taken.{is_taken, is_worded_event}
+use Rattle.room_like.specs.Worded.{is_worded_event}
 use Rattle.life_model.specs.Sent.{sent}
 use Rattle.life_model.specs.Promises.{latest_frames}
 use Rattle.room_promises.specs.RoomLives.{RoomLife, RoomRun, room_run, is_live}
@@ -24,12 +24,11 @@ pub record Keeps (schema : Schema) (def : RoomDef) (x : RoomRun) : Type 0 where
   -- the seats, reservations and kept seats together are at most the places that the room has then
   pub places : in_use x.room.seats ≤ x.room.seats.max
 
--- events that may happen to a new room one after another, and that it takes; the texts that they put are UTF-8, as those
+-- events that may happen to a new room one after another; the texts that they put are UTF-8, as those
 -- of every event are that a program has
 pub record CanPlay (schema : Schema) (def : RoomDef) (criteria : List (List ℕ)) (events : List RoomEvent) : Type 0 where
   pub schema_kept : is_kept schema ≡ true
   pub follow : may_follow (new_room schema def criteria) events ≡ true
-  pub taken : list_all is_taken events ≡ true
   pub worded : list_all is_worded_event events ≡ true
 
 -- every such run keeps the promises

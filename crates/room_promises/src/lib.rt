@@ -1,4 +1,4 @@
-//! The three promises of a room, for every list of events that it takes.
+//! The three promises of a room, for every list of events that may happen.
 #![tactic(auto)]
 
 pub mod rooms;

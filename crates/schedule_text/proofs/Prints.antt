@@ -10,18 +10,6 @@ use Rattle.text_model.specs.Marks.{hex_digit, hex_byte, hex_word, line, lines, s
 use Rattle.text_model.specs.Paths.{field_words, schema_lines}
 use Rattle.std.proofs.lemmas.List.Concat.{flat_map-append}
 
--- what begins with a longer list begins with its front
-pub starts_after : (now old more : List ℕ) → StartsWith now (old ++ more) → StartsWith now old
-starts_after now old more h =
-    sym (take-take (length old) (length (old ++ more)) now (omega (arith, length-append old more)))
-    ∙ (ap (take (length old)) h ∙ take_at old more _ refl)
-
-pub starts_itself : (old : List ℕ) → StartsWith old old
-starts_itself old = take_all _ old (omega arith)
-
-pub starts_with_front : (now old more : List ℕ) → now ≡ old ++ more → StartsWith now old
-starts_with_front now old more e = ap (take (length old)) e ∙ take_at old more _ refl
-
 -- a digit of the table
 digit_of_table : (n : ℕ) → n < 16 → get_or lower_digits n 0 ≡ hex_digit n
 digit_of_table n h = eqb-true _ _ (agree_below_at (λ k. eqb (get_or lower_digits k 0) (hex_digit k)) (λ _. true) 16 n refl h)

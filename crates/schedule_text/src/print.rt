@@ -175,7 +175,7 @@ pub fn print_out(out: &mut Vec<u8>, one: &HubOut) -> Result<(), Memory>
 }
 
 /// Appends the schema lines. An `Err` may leave some of them.
-#[tactic(auto, using(crate::proofs::Prints::starts_after, crate::proofs::Prints::starts_with_front))]
+#[tactic(auto, using(lists::proofs::Fronts::starts_after, lists::proofs::Fronts::starts_with_front))]
 fn append_schema_lines(out: &mut Vec<u8>, class: &Text, fields: &Names) -> Result<(), Memory>
     ensures ok { OnOk result
         (out.new.items ≡ out.old.items ++ lines (schema_lines class.now fields.now)) }

@@ -84,7 +84,7 @@ fn append_escaped(out: &mut Vec<u8>, byte: u8) -> Result<(), Memory>
 }
 
 /// Appends a quoted word. An `Err` may leave a part of it.
-#[tactic(auto, using(crate::proofs::Prints::starts_after, crate::proofs::Prints::starts_with_front))]
+#[tactic(auto, using(lists::proofs::Fronts::starts_after, lists::proofs::Fronts::starts_with_front))]
 fn append_quoted(out: &mut Vec<u8>, text: &[u8]) -> Result<(), Memory>
     ensures ok { OnOk result (out.new.items ≡ out.old.items ++ quoted text.now) }
     ensures err { OnErr result (StartsWith out.new.items out.old.items) }
@@ -111,7 +111,7 @@ fn append_word(out: &mut Vec<u8>, word: Word) -> Result<(), Memory>
 }
 
 /// Appends a line. An `Err` may leave a part of it.
-#[tactic(auto, using(crate::proofs::Prints::starts_after, crate::proofs::Prints::starts_with_front))]
+#[tactic(auto, using(lists::proofs::Fronts::starts_after, lists::proofs::Fronts::starts_with_front))]
 fn append_words(out: &mut Vec<u8>, words: &[Word]) -> Result<(), Memory>
     ensures ok { OnOk result (out.new.items ≡ out.old.items ++ line (word_texts words.now)) }
     ensures err { OnErr result (StartsWith out.new.items out.old.items) }

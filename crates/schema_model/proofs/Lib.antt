@@ -5,3 +5,4 @@ pub mod KindLines
 pub mod NumberAgain
 pub mod ScalarAgain
 pub mod ScalarRows
+pub mod Within

@@ -184,6 +184,7 @@ fn take(decoder: &mut Decoder, frame: &Bytes) -> Result<(), Fail> {
     match frame.as_slice().split_first() {
         Some((14, state)) => Ok(decoder.full(state)?),
         Some((15, state)) => Ok(decoder.patch(state)?),
+        Some((13 | 17, _)) => Ok(()),
         _ => Err(Fail::new("another frame")),
     }
 }

@@ -15,6 +15,10 @@ mod graphs;
 #[cfg(test)]
 mod limits;
 #[cfg(test)]
+mod messages;
+#[cfg(test)]
+mod packs;
+#[cfg(test)]
 mod rooms;
 #[cfg(test)]
 mod script;

@@ -3,8 +3,9 @@ ghost use Rattle.std.specs.Prelude.{◌≡◌, ◌<◌};
 
 use crate::game::Game;
 use crate::script::{add_answer, command_of, lines_of, row_of, schema_of};
+use frame_model::MsgKind;
 use frame_model::codes::{JOIN_ROOM, LEAVE_ROOM};
-use lists::Memory;
+use lists::{Memory, Text};
 use room_core::{Act, RoomEvent, RoomOut};
 use schema_model::{Bytes, Id, Pair, Tag};
 use std::alloc::Global;
@@ -71,8 +72,16 @@ fn event_in(alloc: Global, words: &[&str]) -> Result<Option<RoomEvent>, Fail> {
     match *words {
         [verb] => Ok(event_alone(verb)),
         [verb, word] => event_with(alloc, verb, word),
+        ["all", kind, payload] => Ok(Some(RoomEvent::Act(to_all(alloc, kind, payload)?))),
+        ["frame", session, hex] => Ok(Some(RoomEvent::Frame(
+            id_of(session)?,
+            bytes_of(alloc, hex)?,
+        ))),
         [verb, session, other] => session_event_with(verb, session, other),
-        [verb, session, token, fresh] => returning(verb, session, token, fresh),
+        ["return", session, token, fresh] => Ok(Some(returning(session, token, fresh)?)),
+        [verb @ ("send" | "raw"), session, kind, payload] => {
+            Ok(Some(message(alloc, verb, session, kind, payload)?))
+        }
         _ => Ok(None),
     }
 }
@@ -96,17 +105,48 @@ fn event_with(alloc: Global, verb: &str, word: &str) -> Result<Option<RoomEvent>
 }
 
 // `return a x y` with letters for the token and the fresh one.
-fn returning(
+fn returning(session: &str, token: &str, fresh: &str) -> Result<RoomEvent, Fail> {
+    let token = Some(id_of(token)?);
+    Ok(RoomEvent::Enter(id_of(session)?, token, id_of(fresh)?))
+}
+
+// `send a chat 03` and `raw a #5 0102`: a kind, and a payload in hex.
+fn message(
+    alloc: Global,
     verb: &str,
     session: &str,
-    token: &str,
-    fresh: &str,
-) -> Result<Option<RoomEvent>, Fail> {
-    if verb != "return" {
-        return Ok(None);
+    kind: &str,
+    payload: &str,
+) -> Result<RoomEvent, Fail> {
+    let session = id_of(session)?;
+    let kind = kind_of(alloc, kind)?;
+    let payload = bytes_of(alloc, payload)?;
+    Ok(RoomEvent::Act(match verb {
+        "raw" => Act::Raw(session, kind, payload),
+        _ => Act::Send(session, kind, payload),
+    }))
+}
+
+// `all chat 03`.
+fn to_all(alloc: Global, kind: &str, payload: &str) -> Result<Act, Fail> {
+    Ok(Act::ToAll(kind_of(alloc, kind)?, bytes_of(alloc, payload)?))
+}
+
+// A message kind: a name, or a number behind `#`.
+fn kind_of(alloc: Global, word: &str) -> Result<MsgKind, Fail> {
+    Ok(match word.strip_prefix("#") {
+        Some(number) => MsgKind::Num(number.parse::<i32>()?),
+        None => MsgKind::Name(Text::from_text(alloc, word)?),
+    })
+}
+
+// Bytes in hex; `-` for none.
+fn bytes_of(alloc: Global, word: &str) -> Result<Bytes, Fail> {
+    let hex = if word == "-" { "" } else { word };
+    match hex::decode(alloc, hex) {
+        Ok(bytes) => Ok(Bytes::from_vec(bytes)),
+        Err(_) => Err(Fail::new("no hex")),
     }
-    let token = Some(id_of(token)?);
-    Ok(Some(RoomEvent::Enter(id_of(session)?, token, id_of(fresh)?)))
 }
 
 // An event of a session: `reserve a`, `acknowledge a`, `leave a`.
@@ -175,7 +215,27 @@ fn told_out(alloc: Global, out: &RoomOut) -> Result<String, Fail> {
         RoomOut::TokenInUse(session) => format!(in alloc; "{}: token in use", letter(*session))?,
         RoomOut::Made(number) => format!(in alloc; "made {}", number.0)?,
         RoomOut::Refused(refusal) => format!(in alloc; "refused: {refusal}")?,
-        _ => return Err(Fail::new("another output")),
+        RoomOut::Message(session, kind, payload) => {
+            told_message(alloc, *session, "says", kind, payload)?
+        }
+        RoomOut::RawMessage(session, kind, payload) => {
+            told_message(alloc, *session, "sends", kind, payload)?
+        }
+    })
+}
+
+fn told_message(
+    alloc: Global,
+    session: Id,
+    verb: &str,
+    kind: &MsgKind,
+    payload: &Bytes,
+) -> Result<String, Fail> {
+    let hex = hex::encode(alloc, payload.as_slice())?;
+    let session = letter(session);
+    Ok(match kind {
+        MsgKind::Name(name) => format!(in alloc; "{session} {verb} {} {hex}", name.as_str())?,
+        MsgKind::Num(number) => format!(in alloc; "{session} {verb} #{number} {hex}")?,
     })
 }
 

@@ -3,7 +3,7 @@ use crate::commands::Script;
 use crate::events::Crowd;
 use crate::fault::WorkFault;
 use crate::part::Part;
-use crate::{decoding, schemas, seats, tables, views};
+use crate::{decoding, messages, packs, schemas, seats, tables, views};
 use std::alloc::Global;
 
 // Clients who look around.
@@ -39,10 +39,16 @@ pub enum Kernel {
     Ledger,
     /// Clients that drop and come back.
     Returns,
+    /// Messages to all clients.
+    ToAll,
+    /// MessagePack values.
+    PackRead,
+    PackWrite,
+    PackLies,
 }
 
 // Each with its name.
-const KERNELS: [(&str, Kernel); 18] = [
+const KERNELS: [(&str, Kernel); 22] = [
     ("things", Kernel::Commands(Script::Things)),
     ("players", Kernel::Commands(Script::Players)),
     ("numbers_back", Kernel::Commands(Script::NumbersBack)),
@@ -61,6 +67,10 @@ const KERNELS: [(&str, Kernel); 18] = [
     ("views_many", Kernel::ViewsMany),
     ("ledger", Kernel::Ledger),
     ("returns", Kernel::Returns),
+    ("to_all", Kernel::ToAll),
+    ("pack_read", Kernel::PackRead),
+    ("pack_write", Kernel::PackWrite),
+    ("pack_lies", Kernel::PackLies),
 ];
 
 impl Kernel {
@@ -90,6 +100,10 @@ impl Kernel {
             Kernel::ViewsMany => views::watch(alloc, size, MANY, done),
             Kernel::Ledger => seats::seat(alloc, size, done),
             Kernel::Returns => seats::come_again(alloc, size, done),
+            Kernel::ToAll => messages::tell_all(alloc, size, done),
+            Kernel::PackRead => packs::read_players(alloc, size, done),
+            Kernel::PackWrite => packs::write_players(alloc, size, done),
+            Kernel::PackLies => packs::read_lies(alloc, size, done),
         }
     }
 }

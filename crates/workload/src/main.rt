@@ -10,6 +10,8 @@ mod fault;
 mod frames;
 mod game;
 mod kernel;
+mod messages;
+mod packs;
 mod part;
 mod schemas;
 mod seats;

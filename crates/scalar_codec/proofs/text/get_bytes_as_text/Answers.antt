@@ -5,12 +5,8 @@ use Rattle.std.proofs.lemmas.Str.{IsUtf8-from_is_utf8, is_utf8-from_IsUtf8}
 use Rattle.std.proofs.lemmas.Bool.Decides.{nat_tests}
 use Rattle.schema_model.specs.Reading.{text_of}
 use Rattle.schema_model.specs.declared.fault.ReadFault.TheVariants.{BadText}
+use Rattle.lists.proofs.Utf8Laws.{is_utf8-no}
 use Rattle.scalar_codec.proofs.text.get_bytes_as_text.Goals as goal
-
-is_utf8-no : (bs : List ℕ) → (IsUtf8 bs → ⊥) → is_utf8 bs ≡ false
-is_utf8-no bs h =
-    let go : (b : Bool) → is_utf8 bs ≡ b → b ≡ false = elim [ true ↦ λ e. absurd (h (IsUtf8-from_is_utf8 bs e)) | false ↦ λ e. refl ] in
-    go (is_utf8 bs) refl
 
 -- the bytes are there
 there : (bytes : List ℕ) (start len : ℕ) → start ≤ length bytes → len ≤ length bytes - start → nat_lt (length bytes) (start + len) ≡ false

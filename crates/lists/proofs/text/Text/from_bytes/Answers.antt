@@ -1,12 +1,8 @@
 use Rattle.std.proofs.Common.{◌≡◌, Bool, true, false, ℕ, List, refl, ◌∙◌}
 use Rattle.std.specs.Str.{IsUtf8, is_utf8}
 use Rattle.std.proofs.lemmas.Str.{IsUtf8-from_is_utf8, is_utf8-from_IsUtf8}
+use Rattle.lists.proofs.Utf8Laws.{is_utf8-no}
 use Rattle.lists.proofs.text.Text.from_bytes.Goals as goal
-
-is_utf8-no : (bs : List ℕ) → (IsUtf8 bs → ⊥) → is_utf8 bs ≡ false
-is_utf8-no bs h =
-    let go : (b : Bool) → is_utf8 bs ≡ b → b ≡ false = elim [ true ↦ λ e. absurd (h (IsUtf8-from_is_utf8 bs e)) | false ↦ λ e. refl ] in
-    go (is_utf8 bs) refl
 
 pub returns-in_default : goal.returns-in_default
 returns-in_default c = is_utf8-no _ c.in_default.ensures.cases.0

@@ -1,9 +1,9 @@
-use Rattle.std.proofs.Common.{◌≡◌, ◌<◌, ◌+◌, length, map, set, ap, arith, sym, subst, ◌∙◌}
+use Rattle.std.proofs.Common.{◌≡◌, ℕ, ◌<◌, ◌+◌, List, length, map, set, ap, arith, sym, subst, ◌∙◌}
 use Rattle.std.proofs.lemmas.Option.{slice_get_within}
 use Rattle.live_state.specs.Live.{rows_of, schema_of}
 use Rattle.room_model.specs.Seats.{Seats}
 use Rattle.room_model.specs.Ledger.{keep}
-use Rattle.room_model.specs.Room.{accepted, dropped, with_seats, with_sessions}
+use Rattle.room_model.specs.Room.{RoomValue, accepted, dropped, with_seats, with_sessions}
 use Rattle.room_model.specs.Sessions.{change_session}
 use Rattle.view_counts.specs.Settled.{View, new_view}
 use Rattle.room_core.specs.Stands.{Stands}
@@ -67,7 +67,9 @@ returns-clause-room c =
     let places : c.keep.new.self ≡ accepted p.places (keep p.places c.args.session (c.args.now + one.keep)) =
     taken ∙ sym (ap (accepted p.places) kept.1) ∙ ap (λ k. accepted p.places (keep p.places c.args.session (c.args.now + k))) c.from.ensures in
     let seen : c.in_ok-view.view ≡ new_view (schema_of p.live) = c.in_ok-view.ensures ∙ ap new_view c.schema.ensures.value in
-    ap (λ (v : View). room_with p.def p.criteria p.live p.shared c.keep.new.self (set p.clients.items c.in-Some.at (client_seen v d))) seen
+    let room_seen : View → List (List ℕ) → RoomValue = λ v queue. room_with p.def p.criteria p.live p.shared c.keep.new.self (set p.clients.items c.in-Some.at (client_seen v queue d)) in
+    ap (λ v. room_seen v c.new-3.result) seen
+    ∙ ap (room_seen (new_view (schema_of p.live))) c.new-3.ensures
     ∙ drop_room p.def p.criteria p.live p.shared p.places p.clients.items c.args.session distinct c.in-Some.at d also.0 also.1 c.keep.new.self
     ∙ ap (λ (seats : Seats). with_seats (with_sessions (room_of p) (change_session c.args.session (dropped (schema_of p.live)) (map session_of_client p.clients.items))) seats) places
     ∙ sym (ap (λ x. x.0) step)
@@ -78,8 +80,9 @@ returns-clause-stands c =
     let d = c.index_mut-client.result.now in
     let also = as_read c.args.session p.clients.items c.in-Some.at d c.in-Some.ensures c.index_mut-client.ensures.value in
     let seen : c.in_ok-view.view ≡ new_view (schema_of p.live) = c.in_ok-view.ensures ∙ ap new_view c.schema.ensures.value in (
-      subst (λ (v : View). Stands p.live p.shared (set p.clients.items c.in-Some.at (client_seen v d))) (sym seen)
-          (stands_set p.live p.shared p.clients.items c.in-Some.at d (dropped_client (schema_of p.live) d) also.0 (λ last. drops (schema_of p.live) last (rows_of p.live) d) c.requires.stands.0),
+      subst (λ (v : View). Stands p.live p.shared (set p.clients.items c.in-Some.at (client_seen v c.new-3.result d))) (sym seen)
+          (subst (λ queue. Stands p.live p.shared (set p.clients.items c.in-Some.at (client_seen (new_view (schema_of p.live)) queue d))) (sym c.new-3.ensures)
+          (stands_set p.live p.shared p.clients.items c.in-Some.at d (dropped_client (schema_of p.live) d) also.0 (λ last. drops (schema_of p.live) last (rows_of p.live) d) c.requires.stands.0)),
       c.requires.stands.1,
       c.requires.stands.2,
     )

@@ -1,0 +1,166 @@
+-- What was written is read again, whatever stands before and behind it.
+use Rattle.std.proofs.Common.{◌≡◌, ℕ, zero, suc, ◌+◌, ◌^◌, ◌<◌, ◌≤◌, Bool, true, false, ◌&&◌, List, ◌++◌, length, Result, Ok, refl, sym, ap, ◌∙◌, subst, arith, append_assoc}
+use Rattle.std.specs.Prelude.{Err, OnOk}
+use Rattle.std.specs.Str.{is_utf8}
+use Rattle.std.proofs.lemmas.List.{length-append}
+use Rattle.schema_model.specs.Reading.{◌>>=◌}
+use Rattle.schema_model.proofs.NumberAgain.{ltb_below}
+use Rattle.std.specs.Int.{w8}
+use Rattle.frame_model.specs.declared.fault.PackFault.{PackFault}
+use Rattle.frame_model.specs.declared.form.Length.{Length}
+use Rattle.frame_model.specs.declared.form.Form.{Form}
+use Rattle.frame_model.specs.declared.form.Form.TheVariants as form
+use Rattle.frame_model.specs.PackData.{PackData, nil, truth, whole, text, binary, list, dict, PackItems, no_items, item, PackMembers, no_members, member}
+use Rattle.frame_model.specs.Packs.{are_texts, as_value, binary_bytes, binary_head, depth, dict_head, form_of, has_bytes, items_are_texts, items_at, items_bytes, items_depth, items_have_bytes, items_len, key_at, key_of_form, length_at, list_head, members_are_texts, members_at, members_bytes, members_depth, members_have_bytes, members_len, most_levels, pack_at, pack_bytes, run_at, text_at, text_bytes, text_head, value_of_form, width_at}
+use Rattle.msgpack_lite.specs.Ends.{inside}
+use Rattle.msgpack_lite.proofs.BuildLaws.{list-is, dict-is}
+use Rattle.msgpack_lite.proofs.AgainParts.{IsHead, binary_head_is, by_form, by_head, byte_read, dict_head_is, list_head_is, run_again, text_again, text_head_is, whole_again}
+
+both : (a b : Bool) → (a && b) ≡ true → (a ≡ true) × (b ≡ true)
+both true b h = (refl, h)
+both false b h = cc
+
+single : (form_of 192 ≡ form.Nil) × (form_of 194 ≡ form.Truth false) × (form_of 195 ≡ form.Truth true)
+unfolding form_of
+single = (refl, refl, refl)
+
+-- ---- heads
+
+head_byte : (f : Length → Form) (n : ℕ) (head front more : List ℕ) (h : IsHead f n head) → width_at w8 (front ++ (head ++ more)) (length front) ≡ Ok (h.first, length front + 1)
+head_byte f n head front more h = subst (λ x. width_at w8 (front ++ (x ++ more)) (length front) ≡ Ok (h.first, length front + 1)) (sym h.is) (byte_read front (h.rest ++ more) h.first)
+
+-- the bytes with the head by itself
+parted : (B front head body more : List ℕ) → B ≡ front ++ ((head ++ body) ++ more) → B ≡ front ++ (head ++ (body ++ more))
+parted B front head body more is = is ∙ ap (λ x. front ++ x) (append_assoc head body more)
+
+-- what stands behind a part
+behind : (B front part rest more : List ℕ) → B ≡ front ++ ((part ++ rest) ++ more) → B ≡ (front ++ part) ++ (rest ++ more)
+behind B front part rest more is = parted B front part rest more is ∙ sym (append_assoc front part (rest ++ more))
+
+opened : (f : Length → Form) (n : ℕ) (head : List ℕ) (levels : ℕ) (B front more : List ℕ) (h : IsHead f n head) → B ≡ front ++ (head ++ more) → pack_at levels B (length front) ≡ value_of_form (inside levels B) (f h.len) B (length front)
+opened f n head levels B front more h is = subst (λ b. pack_at levels b (length front) ≡ value_of_form (inside levels b) (f h.len) b (length front)) (sym is) (by_head f n head levels front more h)
+
+measured : (f : Length → Form) (n : ℕ) (head B front more : List ℕ) (h : IsHead f n head) → B ≡ front ++ (head ++ more) → length_at h.len B (length front + 1) ≡ Ok (n, length front + length head)
+measured f n head B front more h is = subst (λ b. length_at h.len b (length front + 1) ≡ Ok (n, length front + length head)) (sym is) (h.measures front more)
+
+-- ---- texts and bytes
+
+texts_read : (t B front more : List ℕ) (h : IsHead form.Text (length t) (text_head (length t))) → B ≡ front ++ (text_bytes t ++ more) → is_utf8 t ≡ true → text_at h.len B (length front) ≡ Ok (t, length front + length (text_bytes t))
+texts_read t B front more h is good = subst (λ b. text_at h.len b (length front) ≡ Ok (t, length front + length (text_bytes t))) (sym is) (text_again t front more h good)
+
+key_again : (t B front more : List ℕ) → B ≡ front ++ (text_bytes t ++ more) → length t < 2 ^ 32 → is_utf8 t ≡ true → key_at B (length front) ≡ Ok (t, length front + length (text_bytes t))
+unfolding key_at
+key_again t B front more is few good =
+    let h = text_head_is (length t) few in
+    let shape = parted B front (text_head (length t)) t more is in
+    let first : width_at w8 B (length front) ≡ Ok (h.first, length front + 1) = subst (λ b. width_at w8 b (length front) ≡ Ok (h.first, length front + 1)) (sym shape) (head_byte form.Text (length t) (text_head (length t)) front (t ++ more) h) in
+    ap (λ r. r >>= (λ x. key_of_form (form_of x.0) B (length front))) first ∙ (ap (λ f. key_of_form f B (length front)) h.tells ∙ texts_read t B front more h is good)
+
+text_value : (t : List ℕ) (levels : ℕ) (B front more : List ℕ) → B ≡ front ++ (text_bytes t ++ more) → length t < 2 ^ 32 → is_utf8 t ≡ true → pack_at levels B (length front) ≡ Ok (text t, length front + length (text_bytes t))
+text_value t levels B front more is few good =
+    let h = text_head_is (length t) few in
+    opened form.Text (length t) (text_head (length t)) levels B front (t ++ more) h (parted B front (text_head (length t)) t more is) ∙ ap (as_value text) (texts_read t B front more h is good)
+
+binary_value : (t : List ℕ) (levels : ℕ) (B front more : List ℕ) → B ≡ front ++ (binary_bytes t ++ more) → length t < 2 ^ 32 → pack_at levels B (length front) ≡ Ok (binary t, length front + length (binary_bytes t))
+binary_value t levels B front more is few =
+    let h = binary_head_is (length t) few in
+    let read : run_at h.len B (length front + 1) ≡ Ok (t, length front + length (binary_bytes t)) = subst (λ b. run_at h.len b (length front + 1) ≡ Ok (t, length front + length (binary_bytes t))) (sym is) (run_again form.Binary t (binary_head (length t)) front more h) in
+    opened form.Binary (length t) (binary_head (length t)) levels B front (t ++ more) h (parted B front (binary_head (length t)) t more is) ∙ ap (as_value binary) read
+
+-- ---- lists and maps, by what they hold
+
+list_again : (n : ℕ) (ds : PackItems) (B front more : List ℕ) → B ≡ front ++ ((list_head (items_len ds) ++ items_bytes ds) ++ more) → items_len ds < 2 ^ 32
+    → items_at (pack_at n B) (items_len ds) (length (front ++ list_head (items_len ds))) ≡ Ok (ds, length (front ++ list_head (items_len ds)) + length (items_bytes ds))
+    → pack_at (suc n) B (length front) ≡ Ok (list ds, length front + length (list_head (items_len ds) ++ items_bytes ds))
+list_again n ds B front more is few read =
+    let head = list_head (items_len ds) in
+    let h = list_head_is (items_len ds) few in
+    let shape = parted B front head (items_bytes ds) more is in
+    let start = length front + length head in
+    let there : items_at (pack_at n B) (items_len ds) start ≡ Ok (ds, length front + length (head ++ items_bytes ds)) =
+    subst (λ k. items_at (pack_at n B) (items_len ds) k ≡ Ok (ds, k + length (items_bytes ds))) (length-append front head) read ∙ ap (λ k. Ok (ds, k)) (omega (arith, length-append head (items_bytes ds))) in
+    opened form.List (items_len ds) head (suc n) B front (items_bytes ds ++ more) h shape
+    ∙ list-is (pack_at n B) h.len B (length front) (items_len ds) start _ ds (measured form.List (items_len ds) head B front (items_bytes ds ++ more) h shape) there
+
+dict_again : (n : ℕ) (ms : PackMembers) (B front more : List ℕ) → B ≡ front ++ ((dict_head (members_len ms) ++ members_bytes ms) ++ more) → members_len ms < 2 ^ 32
+    → members_at (pack_at n B) B (members_len ms) (length (front ++ dict_head (members_len ms))) ≡ Ok (ms, length (front ++ dict_head (members_len ms)) + length (members_bytes ms))
+    → pack_at (suc n) B (length front) ≡ Ok (dict ms, length front + length (dict_head (members_len ms) ++ members_bytes ms))
+dict_again n ms B front more is few read =
+    let head = dict_head (members_len ms) in
+    let h = dict_head_is (members_len ms) few in
+    let shape = parted B front head (members_bytes ms) more is in
+    let start = length front + length head in
+    let there : members_at (pack_at n B) B (members_len ms) start ≡ Ok (ms, length front + length (head ++ members_bytes ms)) =
+    subst (λ k. members_at (pack_at n B) B (members_len ms) k ≡ Ok (ms, k + length (members_bytes ms))) (length-append front head) read ∙ ap (λ k. Ok (ms, k)) (omega (arith, length-append head (members_bytes ms))) in
+    opened form.Map (members_len ms) head (suc n) B front (members_bytes ms ++ more) h shape
+    ∙ dict-is (pack_at n B) h.len B (length front) (members_len ms) start _ ms (measured form.Map (members_len ms) head B front (members_bytes ms ++ more) h shape) there
+
+-- one value, and those behind it
+next_item : (f : ℕ → Result (PackData × ℕ) PackFault) (m at next end : ℕ) (d : PackData) (ds : PackItems) → f at ≡ Ok (d, next) → items_at f m next ≡ Ok (ds, end) → items_at f (suc m) at ≡ Ok (item d ds, end)
+unfolding items_at
+next_item f m at next end d ds h k = rw (h, k) refl
+
+no_item : (f : ℕ → Result (PackData × ℕ) PackFault) (at : ℕ) → items_at f 0 at ≡ Ok (no_items, at + 0)
+unfolding items_at
+no_item f at = ap (λ k. Ok (no_items, k)) (omega arith)
+
+next_member : (f : ℕ → Result (PackData × ℕ) PackFault) (B : List ℕ) (m at middle next end : ℕ) (q : List ℕ) (d : PackData) (ms : PackMembers) → key_at B at ≡ Ok (q, middle) → f middle ≡ Ok (d, next) → members_at f B m next ≡ Ok (ms, end) → members_at f B (suc m) at ≡ Ok (member q d ms, end)
+unfolding members_at
+next_member f B m at middle next end q d ms g h k = rw (g, h, k) refl
+
+no_member : (f : ℕ → Result (PackData × ℕ) PackFault) (B : List ℕ) (at : ℕ) → members_at f B 0 at ≡ Ok (no_members, at + 0)
+unfolding members_at
+no_member f B at = ap (λ k. Ok (no_members, k)) (omega arith)
+
+-- ---- all values
+
+mutual
+  pub pack_again : (d : PackData) (levels : ℕ) (B front more : List ℕ) → B ≡ front ++ (pack_bytes d ++ more) → depth d ≤ levels → has_bytes d ≡ true → are_texts d ≡ true → pack_at levels B (length front) ≡ Ok (d, length front + length (pack_bytes d))
+  pack_again nil levels B front more is deep has good = subst (λ b. pack_at levels b (length front) ≡ Ok (nil, length front + 1)) (sym is) (by_form levels front more 192 form.Nil single.0)
+  pack_again (truth false) levels B front more is deep has good = subst (λ b. pack_at levels b (length front) ≡ Ok (truth false, length front + 1)) (sym is) (by_form levels front more 194 (form.Truth false) single.1)
+  pack_again (truth true) levels B front more is deep has good = subst (λ b. pack_at levels b (length front) ≡ Ok (truth true, length front + 1)) (sym is) (by_form levels front more 195 (form.Truth true) single.2)
+  pack_again (whole z) levels B front more is deep has good = subst (λ b. pack_at levels b (length front) ≡ Ok (whole z, length front + length (pack_bytes (whole z)))) (sym is) (whole_again levels front more z has)
+  pack_again (text t) levels B front more is deep has good = text_value t levels B front more is (ltb_below (length t) 4294967296 has) good
+  pack_again (binary t) levels B front more is deep has good = binary_value t levels B front more is (ltb_below (length t) 4294967296 has)
+  pack_again (list ds) zero B front more is deep has good = absurd (omega (arith, deep))
+  pack_again (list ds) (suc n) B front more is deep has good =
+      let h = both _ (items_have_bytes ds) has in
+      list_again n ds B front more is (ltb_below (items_len ds) 4294967296 h.0) (items_again ds n B (front ++ list_head (items_len ds)) more (behind B front (list_head (items_len ds)) (items_bytes ds) more is) (omega (arith, deep)) h.1 good)
+  pack_again (dict ms) zero B front more is deep has good = absurd (omega (arith, deep))
+  pack_again (dict ms) (suc n) B front more is deep has good =
+      let h = both _ (members_have_bytes ms) has in
+      dict_again n ms B front more is (ltb_below (members_len ms) 4294967296 h.0) (members_again ms n B (front ++ dict_head (members_len ms)) more (behind B front (dict_head (members_len ms)) (members_bytes ms) more is) (omega (arith, deep)) h.1 good)
+
+  pub items_again : (ds : PackItems) (n : ℕ) (B front more : List ℕ) → B ≡ front ++ (items_bytes ds ++ more) → items_depth ds ≤ n → items_have_bytes ds ≡ true → items_are_texts ds ≡ true → items_at (pack_at n B) (items_len ds) (length front) ≡ Ok (ds, length front + length (items_bytes ds))
+  items_again no_items n B front more is deep has good = no_item (pack_at n B) (length front)
+  items_again (item d ds) n B front more is deep has good =
+      let h = both (has_bytes d) (items_have_bytes ds) has in
+      let g = both (are_texts d) (items_are_texts ds) good in
+      let first = pack_again d n B front (items_bytes ds ++ more) (parted B front (pack_bytes d) (items_bytes ds) more is) (omega (arith, deep)) h.0 g.0 in
+      let rest = items_again ds n B (front ++ pack_bytes d) more (behind B front (pack_bytes d) (items_bytes ds) more is) (omega (arith, deep)) h.1 g.1 in
+      let there = subst (λ k. items_at (pack_at n B) (items_len ds) k ≡ Ok (ds, k + length (items_bytes ds))) (length-append front (pack_bytes d)) rest in
+      next_item (pack_at n B) (items_len ds) (length front) (length front + length (pack_bytes d)) _ d ds first there ∙ ap (λ k. Ok (item d ds, k)) (omega (arith, length-append (pack_bytes d) (items_bytes ds)))
+
+  pub members_again : (ms : PackMembers) (n : ℕ) (B front more : List ℕ) → B ≡ front ++ (members_bytes ms ++ more) → members_depth ms ≤ n → members_have_bytes ms ≡ true → members_are_texts ms ≡ true → members_at (pack_at n B) B (members_len ms) (length front) ≡ Ok (ms, length front + length (members_bytes ms))
+  members_again no_members n B front more is deep has good = no_member (pack_at n B) B (length front)
+  members_again (member q d ms) n B front more is deep has good =
+      let h = both _ (has_bytes d && members_have_bytes ms) has in
+      let hh = both (has_bytes d) (members_have_bytes ms) h.1 in
+      let g = both (is_utf8 q) (are_texts d && members_are_texts ms) good in
+      let gg = both (are_texts d) (members_are_texts ms) g.1 in
+      let shape = behind B front (text_bytes q) (pack_bytes d ++ members_bytes ms) more is in
+      let key = key_again q B front ((pack_bytes d ++ members_bytes ms) ++ more) (parted B front (text_bytes q) (pack_bytes d ++ members_bytes ms) more is) (ltb_below (length q) 4294967296 h.0) g.0 in
+      let value = pack_again d n B (front ++ text_bytes q) (members_bytes ms ++ more) (parted B (front ++ text_bytes q) (pack_bytes d) (members_bytes ms) more shape) (omega (arith, deep)) hh.0 gg.0 in
+      let rest = members_again ms n B ((front ++ text_bytes q) ++ pack_bytes d) more (behind B (front ++ text_bytes q) (pack_bytes d) (members_bytes ms) more shape) (omega (arith, deep)) hh.1 gg.1 in
+      let middle = length-append front (text_bytes q) in
+      let value' = subst (λ k. pack_at n B k ≡ Ok (d, k + length (pack_bytes d))) middle value in
+      let rest' = subst (λ k. members_at (pack_at n B) B (members_len ms) k ≡ Ok (ms, k + length (members_bytes ms))) (length-append (front ++ text_bytes q) (pack_bytes d) ∙ ap (λ k. k + length (pack_bytes d)) middle) rest in
+      next_member (pack_at n B) B (members_len ms) (length front) (length front + length (text_bytes q)) _ _ q d ms key value' rest'
+      ∙ ap (λ k. Ok (member q d ms, k)) (omega (arith, length-append (text_bytes q) (pack_bytes d ++ members_bytes ms), length-append (pack_bytes d) (members_bytes ms)))
+
+-- what was appended of a value is read again
+pub written_again : {A E : Type 0} (r : Result A E) (d : PackData) (old new : List ℕ) → has_bytes d ≡ true → OnOk r (new ≡ old ++ pack_bytes d) → OnOk r (are_texts d ≡ true)
+    → OnOk r ((more : List ℕ) → depth d ≤ most_levels → pack_at most_levels (new ++ more) (length old) ≡ Ok (d, length new))
+written_again (Ok a) d old new has ok good =
+    λ more deep. pack_again d most_levels (new ++ more) old more (ap (λ x. x ++ more) ok ∙ append_assoc old (pack_bytes d) more) deep has good ∙ ap (λ k. Ok (d, k)) (sym (ap length ok ∙ length-append old (pack_bytes d)))
+written_again (Err e) d old new has ok good = tt

@@ -1,0 +1,17 @@
+//! MessagePack values as bytes, both ways: what bytes are, and the shortest bytes of a value. Without floating numbers and
+//! extensions; keys of maps are texts.
+#![tactic(auto)]
+
+pub mod build;
+pub mod ends;
+pub mod fits;
+pub mod form;
+pub mod number;
+pub mod put;
+pub mod reading;
+pub mod writing;
+
+pub use fits::has_bytes;
+pub use frame_model::{Pack, PackFault, PackPairs, Packs};
+pub use reading::{check, read};
+pub use writing::write;
