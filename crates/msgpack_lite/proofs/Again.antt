@@ -1,5 +1,6 @@
 -- What was written is read again, whatever stands before and behind it.
 use Rattle.std.proofs.Common.{◌≡◌, ℕ, zero, suc, ◌+◌, ◌^◌, ◌<◌, ◌≤◌, Bool, true, false, ◌&&◌, List, ◌++◌, length, Result, Ok, refl, sym, ap, ◌∙◌, subst, arith, append_assoc}
+use Rattle.std.proofs.lemmas.Bool.{and_parts}
 use Rattle.std.specs.Prelude.{Err, OnOk}
 use Rattle.std.specs.Str.{is_utf8}
 use Rattle.std.proofs.lemmas.List.{length-append}
@@ -15,10 +16,6 @@ use Rattle.frame_model.specs.Packs.{are_texts, as_value, binary_bytes, binary_he
 use Rattle.msgpack_lite.specs.Ends.{inside}
 use Rattle.msgpack_lite.proofs.BuildLaws.{list-is, dict-is}
 use Rattle.msgpack_lite.proofs.AgainParts.{IsHead, binary_head_is, by_form, by_head, byte_read, dict_head_is, list_head_is, run_again, text_again, text_head_is, whole_again}
-
-both : (a b : Bool) → (a && b) ≡ true → (a ≡ true) × (b ≡ true)
-both true b h = (refl, h)
-both false b h = cc
 
 single : (form_of 192 ≡ form.Nil) × (form_of 194 ≡ form.Truth false) × (form_of 195 ≡ form.Truth true)
 unfolding form_of
@@ -124,18 +121,18 @@ mutual
   pack_again (binary t) levels B front more is deep has good = binary_value t levels B front more is (ltb_below (length t) 4294967296 has)
   pack_again (list ds) zero B front more is deep has good = absurd (omega (arith, deep))
   pack_again (list ds) (suc n) B front more is deep has good =
-      let h = both _ (items_have_bytes ds) has in
+      let h = and_parts _ (items_have_bytes ds) has in
       list_again n ds B front more is (ltb_below (items_len ds) 4294967296 h.0) (items_again ds n B (front ++ list_head (items_len ds)) more (behind B front (list_head (items_len ds)) (items_bytes ds) more is) (omega (arith, deep)) h.1 good)
   pack_again (dict ms) zero B front more is deep has good = absurd (omega (arith, deep))
   pack_again (dict ms) (suc n) B front more is deep has good =
-      let h = both _ (members_have_bytes ms) has in
+      let h = and_parts _ (members_have_bytes ms) has in
       dict_again n ms B front more is (ltb_below (members_len ms) 4294967296 h.0) (members_again ms n B (front ++ dict_head (members_len ms)) more (behind B front (dict_head (members_len ms)) (members_bytes ms) more is) (omega (arith, deep)) h.1 good)
 
   pub items_again : (ds : PackItems) (n : ℕ) (B front more : List ℕ) → B ≡ front ++ (items_bytes ds ++ more) → items_depth ds ≤ n → items_have_bytes ds ≡ true → items_are_texts ds ≡ true → items_at (pack_at n B) (items_len ds) (length front) ≡ Ok (ds, length front + length (items_bytes ds))
   items_again no_items n B front more is deep has good = no_item (pack_at n B) (length front)
   items_again (item d ds) n B front more is deep has good =
-      let h = both (has_bytes d) (items_have_bytes ds) has in
-      let g = both (are_texts d) (items_are_texts ds) good in
+      let h = and_parts (has_bytes d) (items_have_bytes ds) has in
+      let g = and_parts (are_texts d) (items_are_texts ds) good in
       let first = pack_again d n B front (items_bytes ds ++ more) (parted B front (pack_bytes d) (items_bytes ds) more is) (omega (arith, deep)) h.0 g.0 in
       let rest = items_again ds n B (front ++ pack_bytes d) more (behind B front (pack_bytes d) (items_bytes ds) more is) (omega (arith, deep)) h.1 g.1 in
       let there = subst (λ k. items_at (pack_at n B) (items_len ds) k ≡ Ok (ds, k + length (items_bytes ds))) (length-append front (pack_bytes d)) rest in
@@ -144,10 +141,10 @@ mutual
   pub members_again : (ms : PackMembers) (n : ℕ) (B front more : List ℕ) → B ≡ front ++ (members_bytes ms ++ more) → members_depth ms ≤ n → members_have_bytes ms ≡ true → members_are_texts ms ≡ true → members_at (pack_at n B) B (members_len ms) (length front) ≡ Ok (ms, length front + length (members_bytes ms))
   members_again no_members n B front more is deep has good = no_member (pack_at n B) B (length front)
   members_again (member q d ms) n B front more is deep has good =
-      let h = both _ (has_bytes d && members_have_bytes ms) has in
-      let hh = both (has_bytes d) (members_have_bytes ms) h.1 in
-      let g = both (is_utf8 q) (are_texts d && members_are_texts ms) good in
-      let gg = both (are_texts d) (members_are_texts ms) g.1 in
+      let h = and_parts _ (has_bytes d && members_have_bytes ms) has in
+      let hh = and_parts (has_bytes d) (members_have_bytes ms) h.1 in
+      let g = and_parts (is_utf8 q) (are_texts d && members_are_texts ms) good in
+      let gg = and_parts (are_texts d) (members_are_texts ms) g.1 in
       let shape = behind B front (text_bytes q) (pack_bytes d ++ members_bytes ms) more is in
       let key = key_again q B front ((pack_bytes d ++ members_bytes ms) ++ more) (parted B front (text_bytes q) (pack_bytes d ++ members_bytes ms) more is) (ltb_below (length q) 4294967296 h.0) g.0 in
       let value = pack_again d n B (front ++ text_bytes q) (members_bytes ms ++ more) (parted B (front ++ text_bytes q) (pack_bytes d) (members_bytes ms) more shape) (omega (arith, deep)) hh.0 gg.0 in

@@ -1,7 +1,9 @@
 -- Values and pairs written one behind another.
 use Rattle.std.proofs.Common.{◌≡◌, ℕ, suc, ◌<◌, ◌≤◌, Bool, true, false, ◌&&◌, max, List, [], ◌∷◌, ◌++◌, length, refl, sym, ap, ◌∙◌, arith}
 use Rattle.std.specs.Prelude.{Result, Ok, Err, OnErr}
+use Rattle.std.specs.Cmp.Derive.{both_true}
 use Rattle.std.specs.Str.{is_utf8}
+use Rattle.std.proofs.lemmas.Bool.{and_parts}
 use Rattle.std.proofs.lemmas.Bool.Decides.{nat_tests}
 use Rattle.std.proofs.lemmas.List.{append_assoc}
 use Rattle.frame_model.specs.declared.pack.Pack.{Pack}
@@ -18,17 +20,13 @@ pub members_len-view : (ms : List (List ℕ × Pack)) → members_len (members_v
 members_len-view [] = refl
 members_len-view (m ∷ ms) = ap suc (members_len-view ms)
 
-both : (a b : Bool) → (a && b) ≡ true → (a ≡ true) × (b ≡ true)
-both true b h = (refl, h)
-both false b h = cc
-
 -- ---- one value more
 
 pub first_has : (left : PackItems) (d : PackData) (rest : PackItems) → left ≡ item d rest → items_have_bytes left ≡ true → has_bytes d ≡ true
-first_has left d rest is h = (both (has_bytes d) (items_have_bytes rest) (sym (ap items_have_bytes is) ∙ h)).0
+first_has left d rest is h = (and_parts (has_bytes d) (items_have_bytes rest) (sym (ap items_have_bytes is) ∙ h)).0
 
 pub rest_has : (left : PackItems) (d : PackData) (rest : PackItems) → left ≡ item d rest → items_have_bytes left ≡ true → items_have_bytes rest ≡ true
-rest_has left d rest is h = (both (has_bytes d) (items_have_bytes rest) (sym (ap items_have_bytes is) ∙ h)).1
+rest_has left d rest is h = (and_parts (has_bytes d) (items_have_bytes rest) (sym (ap items_have_bytes is) ∙ h)).1
 
 pub first_depth : (left : PackItems) (d : PackData) (rest : PackItems) (n : ℕ) → left ≡ item d rest → items_depth left ≤ n → depth d ≤ n
 first_depth left d rest n is h = let is' : items_depth left ≡ max (depth d) (items_depth rest) = ap items_depth is in omega (arith, is', h)
@@ -42,13 +40,13 @@ next_bytes left d rest done all is h = append_assoc done (pack_bytes d) (items_b
 -- ---- one pair more
 
 pub first_key : (left : PackMembers) (q : List ℕ) (d : PackData) (rest : PackMembers) → left ≡ member q d rest → members_have_bytes left ≡ true → is_short (length q) ≡ true
-first_key left q d rest is h = (both (is_short (length q)) (has_bytes d && members_have_bytes rest) (sym (ap members_have_bytes is) ∙ h)).0
+first_key left q d rest is h = (and_parts (is_short (length q)) (has_bytes d && members_have_bytes rest) (sym (ap members_have_bytes is) ∙ h)).0
 
 pub first_value : (left : PackMembers) (q : List ℕ) (d : PackData) (rest : PackMembers) → left ≡ member q d rest → members_have_bytes left ≡ true → has_bytes d ≡ true
-first_value left q d rest is h = (both (has_bytes d) (members_have_bytes rest) (both (is_short (length q)) (has_bytes d && members_have_bytes rest) (sym (ap members_have_bytes is) ∙ h)).1).0
+first_value left q d rest is h = (and_parts (has_bytes d) (members_have_bytes rest) (and_parts (is_short (length q)) (has_bytes d && members_have_bytes rest) (sym (ap members_have_bytes is) ∙ h)).1).0
 
 pub rest_have : (left : PackMembers) (q : List ℕ) (d : PackData) (rest : PackMembers) → left ≡ member q d rest → members_have_bytes left ≡ true → members_have_bytes rest ≡ true
-rest_have left q d rest is h = (both (has_bytes d) (members_have_bytes rest) (both (is_short (length q)) (has_bytes d && members_have_bytes rest) (sym (ap members_have_bytes is) ∙ h)).1).1
+rest_have left q d rest is h = (and_parts (has_bytes d) (members_have_bytes rest) (and_parts (is_short (length q)) (has_bytes d && members_have_bytes rest) (sym (ap members_have_bytes is) ∙ h)).1).1
 
 pub value_depth : (left : PackMembers) (q : List ℕ) (d : PackData) (rest : PackMembers) (n : ℕ) → left ≡ member q d rest → members_depth left ≤ n → depth d ≤ n
 value_depth left q d rest n is h = let is' : members_depth left ≡ max (depth d) (members_depth rest) = ap members_depth is in omega (arith, is', h)
@@ -79,11 +77,8 @@ all_short n m b x h is same k = sym (ap (λ s. s && x) (sym (ap is_short same) �
 
 -- ---- texts
 
-both_true : (a b : Bool) → a ≡ true → b ≡ true → (a && b) ≡ true
-both_true a b h k = rw (h, k) refl
-
 pub texts_too : (left : PackItems) (d : PackData) (rest : PackItems) → left ≡ item d rest → are_texts d ≡ true → items_are_texts rest ≡ true → items_are_texts left ≡ true
-texts_too left d rest is h k = ap items_are_texts is ∙ both_true (are_texts d) (items_are_texts rest) h k
+texts_too left d rest is h k = ap items_are_texts is ∙ both_true h k
 
 pub pair_texts_too : (left : PackMembers) (q : List ℕ) (d : PackData) (rest : PackMembers) → left ≡ member q d rest → is_utf8 q ≡ true → are_texts d ≡ true → members_are_texts rest ≡ true → members_are_texts left ≡ true
-pair_texts_too left q d rest is g h k = ap members_are_texts is ∙ both_true (is_utf8 q) (are_texts d && members_are_texts rest) g (both_true (are_texts d) (members_are_texts rest) h k)
+pair_texts_too left q d rest is g h k = ap members_are_texts is ∙ both_true g (both_true h k)
