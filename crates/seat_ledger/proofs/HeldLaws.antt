@@ -3,6 +3,8 @@ use Rattle.std.proofs.Common.{◌≡◌, ℕ, zero, suc, ◌+◌, ◌<◌, ◌�
 use Rattle.std.specs.Prelude.{slice_get}
 use Rattle.std.specs.List.{remove, find, list_any}
 use Rattle.std.proofs.lemmas.Bool.Decides.{nat_tests}
+use Rattle.std.proofs.lemmas.List.{length-append, length-set}
+use Rattle.std.proofs.lemmas.List.Edits.{length-remove}
 use Rattle.seat_ledger.specs.Slots.{IndexState, has_slot, is_key, one_of, IsFree}
 use Rattle.seat_ledger.specs.Held.{holds, keyed, IsIndexed, IsOnce, passes}
 
@@ -127,8 +129,8 @@ module _ {X : Type 0} (k : X → Option ℕ) where
 
   -- ---- what an index holds
 
-  pub indexed_none : (i : IndexState) → i.slots ≡ [] → IsIndexed k [] i
-  indexed_none i h = record { held = λ q p. ap (has_slot q p) h; counted = ap length h }
+  pub indexed_none : (i : IndexState) → i.slots ≡ [] → i.count ≡ 0 → IsIndexed k [] i
+  indexed_none i h none = record { all = none; held = λ q p. ap (has_slot q p) h; counted = ap length h }
 
   pub free_behind : (es : List X) (i : IndexState) → IsIndexed k es i → IsFree (length es) i.slots
   free_behind es i is q = is.held q (length es) ∙ holds_past es q (length es) (omega arith)
@@ -137,10 +139,11 @@ module _ {X : Type 0} (k : X → Option ℕ) where
   room_behind es e i room is l = omega (arith, is.counted, keyed_few es, one_most (k e))
 
   pub indexed_more : (es : List X) (e : X) (i j : IndexState) → IsIndexed k es i
-      → ((q p : ℕ) → has_slot q p j.slots ≡ (has_slot q p i.slots || ((p == length es) && is_key q (k e)))) → length j.slots ≡ length i.slots + one_of (k e)
+      → ((q p : ℕ) → has_slot q p j.slots ≡ (has_slot q p i.slots || ((p == length es) && is_key q (k e)))) → length j.slots ≡ length i.slots + one_of (k e) → j.count ≡ i.count + 1
       → IsIndexed k (es ++ e ∷ []) j
-  indexed_more es e i j is has len =
+  indexed_more es e i j is has len more =
       record {
+        all = omega (arith, more, is.all, length-append es (e ∷ []));
         held = λ q p. has q p ∙ (ap (λ b. b || ((p == length es) && is_key q (k e))) (is.held q p) ∙ sym (holds_more es e q p));
         counted = omega (arith, len, is.counted, keyed_more es e);
       }
@@ -152,19 +155,21 @@ module _ {X : Type 0} (k : X → Option ℕ) where
   room_set es at old e i room is h l = omega (arith, is.counted, keyed_few (set es at e), keyed_set es at old e h)
 
   pub indexed_set : (es : List X) (at : ℕ) (old e : X) (i j : IndexState) → IsIndexed k es i → slice_get es at ≡ Some old → at < length es
-      → ((q p : ℕ) → has_slot q p j.slots ≡ cond (p == at) (is_key q (k e)) (has_slot q p i.slots)) → length j.slots + one_of (k old) ≡ length i.slots + one_of (k e)
+      → ((q p : ℕ) → has_slot q p j.slots ≡ cond (p == at) (is_key q (k e)) (has_slot q p i.slots)) → length j.slots + one_of (k old) ≡ length i.slots + one_of (k e) → j.count ≡ i.count
       → IsIndexed k (set es at e) j
-  indexed_set es at old e i j is h l has len =
+  indexed_set es at old e i j is h l has len same =
       record {
+        all = omega (arith, same, is.all, length-set es at e);
         held = λ q p. has q p ∙ (ap (cond (p == at) (is_key q (k e))) (is.held q p) ∙ sym (holds_set es at e q p l));
         counted = omega (arith, len, is.counted, keyed_set es at old e h);
       }
 
   pub indexed_removed : (es : List X) (at : ℕ) (old : X) (i j : IndexState) → IsIndexed k es i → slice_get es at ≡ Some old → at < length es
-      → ((q p : ℕ) → has_slot q p j.slots ≡ has_slot q (cond (ltb p at) p (p + 1)) i.slots) → length j.slots + one_of (k old) ≡ length i.slots
+      → ((q p : ℕ) → has_slot q p j.slots ≡ has_slot q (cond (ltb p at) p (p + 1)) i.slots) → length j.slots + one_of (k old) ≡ length i.slots → j.count + 1 ≡ i.count
       → IsIndexed k (remove es at) j
-  indexed_removed es at old i j is h l has len =
+  indexed_removed es at old i j is h l has len less =
       record {
+        all = omega (arith, less, is.all, length-remove es at l);
         held = λ q p. has q p ∙ (is.held q (cond (ltb p at) p (p + 1)) ∙ sym (holds_removed es at q p l));
         counted = omega (arith, len, is.counted, keyed_removed es at old h);
       }

@@ -117,12 +117,14 @@ own_at es at e once there q p h k = once q p at k (holds_get by_token es at e q 
 
 -- ---- what holds
 
-pub kept_more : (max capacity more at number moment : ℕ) (es : List SeatEntry) (session : List ℕ) (lapse : ℕ) (s t l u v : IndexState)
-    → IsKept max capacity es s t l → length es < max → IsNew session es → IsId session → at ≡ length es → number ≡ id_number session → moment ≡ lapse → capacity ≤ more → s.room ≤ u.room → l.room ≤ v.room
+pub kept_more : (max capacity more at number moment : ℕ) (es : List SeatEntry) (session : List ℕ) (lapse : ℕ) (s t l u v w : IndexState)
+    → IsKept max capacity es s t l → length es < max → IsNew session es → IsId session → at ≡ length es → number ≡ id_number session → moment ≡ lapse → capacity ≤ more
+    → s.room ≤ u.room → t.room ≤ v.room → l.room ≤ w.room → u.count ≡ s.count + 1 → v.count ≡ t.count + 1 → w.count ≡ l.count + 1
     → ((q p : ℕ) → has_slot q p u.slots ≡ (has_slot q p s.slots || ((p == at) && (number == q)))) → length u.slots ≡ length s.slots + 1
-    → ((q p : ℕ) → has_slot q p v.slots ≡ (has_slot q p l.slots || ((p == at) && (moment == q)))) → length v.slots ≡ length l.slots + 1
-    → IsKept max more (es ++ record { session = session; seat = Reserved lapse } ∷ []) u t v
-kept_more max capacity more at number moment es session lapse s t l u v is few new id end same_number same_moment up u_up v_up u_has u_len v_has v_len =
+    → v.slots ≡ t.slots
+    → ((q p : ℕ) → has_slot q p w.slots ≡ (has_slot q p l.slots || ((p == at) && (moment == q)))) → length w.slots ≡ length l.slots + 1
+    → IsKept max more (es ++ record { session = session; seat = Reserved lapse } ∷ []) u v w
+kept_more max capacity more at number moment es session lapse s t l u v w is few new id end same_number same_moment up u_up v_up w_up u_more v_more w_more u_has u_len v_same w_has w_len =
     let e : SeatEntry = record { session = session; seat = Reserved lapse } in
     let same : (b c : Bool) → b ≡ (b || (c && false)) = elim [ true ↦ λ c. refl | false ↦ elim [ true ↦ refl | false ↦ refl ] ] in
     record {
@@ -130,22 +132,22 @@ kept_more max capacity more at number moment es session lapse s t l u v is few n
       few = omega (arith, few, length-append es (e ∷ []));
       room = omega (arith, is.room, up);
       session_room = omega (arith, is.session_room, u_up);
-      token_room = is.token_room;
-      lapse_room = omega (arith, is.lapse_room, v_up);
-      under_session = indexed_more by_session es e s u is.under_session (λ q p. u_has q p ∙ ap₂ (λ a n. has_slot q p s.slots || ((p == a) && (n == q))) end same_number) u_len;
-      under_token = indexed_more by_token es e t t is.under_token (λ q p. same (has_slot q p t.slots) (p == length es)) (omega arith);
-      under_lapse = indexed_more by_lapse es e l v is.under_lapse (λ q p. v_has q p ∙ ap₂ (λ a n. has_slot q p l.slots || ((p == a) && (n == q))) end same_moment) v_len;
+      token_room = omega (arith, is.token_room, v_up);
+      lapse_room = omega (arith, is.lapse_room, w_up);
+      under_session = indexed_more by_session es e s u is.under_session (λ q p. u_has q p ∙ ap₂ (λ a n. has_slot q p s.slots || ((p == a) && (n == q))) end same_number) u_len u_more;
+      under_token = indexed_more by_token es e t v is.under_token (λ q p. ap (has_slot q p) v_same ∙ same (has_slot q p t.slots) (p == length es)) (omega (arith, ap length v_same)) v_more;
+      under_lapse = indexed_more by_lapse es e l w is.under_lapse (λ q p. w_has q p ∙ ap₂ (λ a n. has_slot q p l.slots || ((p == a) && (n == q))) end same_moment) w_len w_more;
       one_session = once_more by_session es e is.one_session (λ q p h. (let same : id_number session ≡ q = grind (arith, nat_tests, h) in subst (λ n. holds by_session es n p ≡ false) same (new p)));
       one_token = once_more by_token es e is.one_token (λ q p h. absurd (let no : (let f : Bool = false in f) ≡ true = h in cc));
       ids = ids_more es e is.ids id tt;
     }
 
 pub kept_set : (max capacity at : ℕ) (es : List SeatEntry) (old : SeatEntry) (seat : Seat) (s t l u v : IndexState)
-    → IsKept max capacity es s t l → at < length es → slice_get es at ≡ Some old → IsOwnToken seat es at → HasIdAsToken seat → t.room ≤ u.room → l.room ≤ v.room
+    → IsKept max capacity es s t l → at < length es → slice_get es at ≡ Some old → IsOwnToken seat es at → HasIdAsToken seat → t.room ≤ u.room → l.room ≤ v.room → u.count ≡ t.count → v.count ≡ l.count
     → ((q p : ℕ) → has_slot q p u.slots ≡ cond (p == at) (is_key q (token_key seat)) (has_slot q p t.slots)) → length u.slots + one_of (token_key old.seat) ≡ length t.slots + one_of (token_key seat)
     → ((q p : ℕ) → has_slot q p v.slots ≡ cond (p == at) (is_key q (lapse_of seat)) (has_slot q p l.slots)) → length v.slots + one_of (lapse_of old.seat) ≡ length l.slots + one_of (lapse_of seat)
     → IsKept max capacity (set es at (record { session = old.session; seat = seat })) s u v
-kept_set max capacity at es old seat s t l u v is within there own id u_up v_up u_has u_len v_has v_len =
+kept_set max capacity at es old seat s t l u v is within there own id u_up v_up u_same v_same u_has u_len v_has v_len =
     let e : SeatEntry = record { session = old.session; seat = seat } in
     let same : (q p : ℕ) → has_slot q p s.slots ≡ cond (p == at) (is_key q (by_session e)) (has_slot q p s.slots) = λ q p. (
     let go : (b : Bool) → (p == at) ≡ b → has_slot q p s.slots ≡ cond b (is_key q (by_session e)) (has_slot q p s.slots) = elim [
@@ -160,21 +162,21 @@ kept_set max capacity at es old seat s t l u v is within there own id u_up v_up 
       session_room = is.session_room;
       token_room = omega (arith, is.token_room, u_up);
       lapse_room = omega (arith, is.lapse_room, v_up);
-      under_session = indexed_set by_session es at old e s s is.under_session there within same (omega arith);
-      under_token = indexed_set by_token es at old e t u is.under_token there within u_has u_len;
-      under_lapse = indexed_set by_lapse es at old e l v is.under_lapse there within v_has v_len;
+      under_session = indexed_set by_session es at old e s s is.under_session there within same (omega arith) refl;
+      under_token = indexed_set by_token es at old e t u is.under_token there within u_has u_len u_same;
+      under_lapse = indexed_set by_lapse es at old e l v is.under_lapse there within v_has v_len v_same;
       one_session = once_set by_session es at e within is.one_session (λ q p h k. is.one_session q p at k (holds_get by_session es at old q there ∙ h));
       one_token = once_set by_token es at e within is.one_token own;
       ids = ids_set es at e is.ids (id_at es at old is.ids there) id;
     }
 
 pub kept_removed : (max capacity at : ℕ) (es : List SeatEntry) (old : SeatEntry) (s t l u v w : IndexState)
-    → IsKept max capacity es s t l → at < length es → slice_get es at ≡ Some old → s.room ≤ u.room → t.room ≤ v.room → l.room ≤ w.room
+    → IsKept max capacity es s t l → at < length es → slice_get es at ≡ Some old → s.room ≤ u.room → t.room ≤ v.room → l.room ≤ w.room → u.count + 1 ≡ s.count → v.count + 1 ≡ t.count → w.count + 1 ≡ l.count
     → ((q p : ℕ) → has_slot q p u.slots ≡ has_slot q (cond (ltb p at) p (p + 1)) s.slots) → length u.slots + 1 ≡ length s.slots
     → ((q p : ℕ) → has_slot q p v.slots ≡ has_slot q (cond (ltb p at) p (p + 1)) t.slots) → length v.slots + one_of (token_key old.seat) ≡ length t.slots
     → ((q p : ℕ) → has_slot q p w.slots ≡ has_slot q (cond (ltb p at) p (p + 1)) l.slots) → length w.slots + one_of (lapse_of old.seat) ≡ length l.slots
     → IsKept max capacity (remove es at) u v w
-kept_removed max capacity at es old s t l u v w is within there u_up v_up w_up u_has u_len v_has v_len w_has w_len =
+kept_removed max capacity at es old s t l u v w is within there u_up v_up w_up u_less v_less w_less u_has u_len v_has v_len w_has w_len =
     record {
       most = is.most;
       few = omega (arith, is.few, length-remove es at within);
@@ -182,9 +184,9 @@ kept_removed max capacity at es old s t l u v w is within there u_up v_up w_up u
       session_room = omega (arith, is.session_room, u_up);
       token_room = omega (arith, is.token_room, v_up);
       lapse_room = omega (arith, is.lapse_room, w_up);
-      under_session = indexed_removed by_session es at old s u is.under_session there within u_has u_len;
-      under_token = indexed_removed by_token es at old t v is.under_token there within v_has v_len;
-      under_lapse = indexed_removed by_lapse es at old l w is.under_lapse there within w_has w_len;
+      under_session = indexed_removed by_session es at old s u is.under_session there within u_has u_len u_less;
+      under_token = indexed_removed by_token es at old t v is.under_token there within v_has v_len v_less;
+      under_lapse = indexed_removed by_lapse es at old l w is.under_lapse there within w_has w_len w_less;
       one_session = once_removed by_session es at within is.one_session;
       one_token = once_removed by_token es at within is.one_token;
       ids = ids_removed es at is.ids within;

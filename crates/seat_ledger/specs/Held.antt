@@ -13,8 +13,9 @@ abbrev pub keyed : {X : Type 0} → (X → Option ℕ) → List X → ℕ
 keyed k [] = 0
 keyed k (e ∷ es) = one_of (k e) + keyed k es
 
--- an index holds the places of all entries that have a key, and no others
+-- an index knows all entries, and holds the places of those that have a key, and no others
 pub record IsIndexed {X : Type 0} (k : X → Option ℕ) (es : List X) (i : IndexState) : Type 0 where
+  pub all : i.count ≡ length es
   pub held : (q p : ℕ) → has_slot q p i.slots ≡ holds k es q p
   pub counted : length i.slots ≡ keyed k es
 

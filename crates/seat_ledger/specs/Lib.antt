@@ -3,4 +3,5 @@ pub mod Slots
 pub mod Keys
 pub mod Held
 pub mod Places
-pub mod SlotValues
+pub mod Keyed
+pub mod Search

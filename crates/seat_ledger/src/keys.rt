@@ -1,7 +1,6 @@
 //! The keys under which the entries of places are found.
-ghost use Rattle.std.specs.Prelude.{◌≡◌, ◌<◌, ◌^◌};
+ghost use Rattle.std.specs.Prelude.{◌≡◌};
 ghost use Rattle.room_model.specs.Ledger.{lapse_of};
-ghost use Rattle.seat_ledger.specs.Slots.{IsNarrow};
 ghost use Rattle.seat_ledger.specs.Keys.{HasIdAsToken, id_number, IsId, token_key};
 
 use room_model::Seat;
@@ -13,7 +12,6 @@ const FRONT: u128 = 18446744073709551616;
 /// An id as a number.
 pub fn id_key(id: Id) -> u128
     ensures value { result ≡ id_number id }
-    ensures narrow { result < 2 ^ 72 }
     ensures id { IsId id }
 {
     let [a, b, c, d, e, f, g, h, i] = id.0;
@@ -24,7 +22,6 @@ pub fn id_key(id: Id) -> u128
 /// The token of a seat as a number.
 pub fn token_key(seat: &Seat) -> Option<u128>
     ensures value { result ≡ token_key seat.now }
-    ensures narrow { IsNarrow result }
     ensures id { HasIdAsToken seat.now }
 {
     match seat {
@@ -37,7 +34,6 @@ pub fn token_key(seat: &Seat) -> Option<u128>
 /// The moment at which a seat lapses.
 pub fn lapse_key(seat: &Seat) -> Option<u128>
     ensures value { result ≡ lapse_of seat.now }
-    ensures narrow { IsNarrow result }
 {
     match seat {
         Seat::Reserved(lapse) => Some(u128::from(*lapse)),

@@ -6,6 +6,7 @@ mod keys;
 mod ledger;
 mod places;
 mod slot;
+mod slots;
 
 pub use ledger::SeatLedger;
 pub use room_model::{Seat, SeatEntry, SeatFault};

@@ -83,8 +83,8 @@ impl Places {
         ensures { IsDuePlace now self.now.entries result }
     {
         let slot = self.by_lapse.least()?;
-        if slot.key() <= u128::from(now) {
-            Some(slot.at())
+        if slot.key <= u128::from(now) {
+            Some(slot.at)
         } else {
             None
         }
@@ -107,6 +107,9 @@ impl Places {
         ensures { self.new ≡ record { max = self.old.max; entries = self.old.entries ++ record { session = session; seat = Reserved lapse } ∷ [] } }
     {
         let at = self.len();
+        self.by_session.grow();
+        self.by_token.grow();
+        self.by_lapse.grow();
         self.by_session.add(Some(id_key(session)), at);
         self.by_lapse.add(Some(u128::from(lapse)), at);
         self.entries

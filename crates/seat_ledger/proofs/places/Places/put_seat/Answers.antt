@@ -51,7 +51,7 @@ invariant_of-self c =
     let there = there_is es at old within c.index.ensures in
     let own : IsOwnToken c.args.seat es at = subst (λ p. IsOwnToken c.args.seat p.entries at) (sym c.self.view_is) c.requires.own in
     kept_set c.self.inside.max _ at es old c.args.seat c.self.inside.by_session c.self.inside.by_token c.self.inside.by_lapse c.exchange.new.self c.exchange-2.new.self
-    c.self.invariant within there own c.token_key-2.ensures.id c.exchange.ensures.kept c.exchange-2.ensures.kept
+    c.self.invariant within there own c.token_key-2.ensures.id c.exchange.ensures.kept c.exchange-2.ensures.kept c.exchange.ensures.count c.exchange-2.ensures.count
     (λ q p. c.exchange.ensures.slots q p ∙ ap (λ k. cond (p == at) (is_key q k) (has_slot q p c.self.inside.by_token.slots)) c.token_key-2.ensures.value)
     (omega (arith, c.exchange.ensures.length, ap one_of c.token_key.ensures.value, ap one_of c.token_key-2.ensures.value))
     (λ q p. c.exchange-2.ensures.slots q p ∙ ap (λ k. cond (p == at) (is_key q k) (has_slot q p c.self.inside.by_lapse.slots)) c.lapse_key-2.ensures.value)

@@ -31,7 +31,7 @@ invariant_of-self c =
     let there = there_is es c.args.at old within c.index.ensures in
     rw (c.remove-4.ensures.items, c.remove-4.ensures.capacity)
     (kept_removed c.self.inside.max _ c.args.at es old c.self.inside.by_session c.self.inside.by_token c.self.inside.by_lapse c.remove.new.self c.remove-2.new.self c.remove-3.new.self
-    c.self.invariant within there c.remove.ensures.kept c.remove-2.ensures.kept c.remove-3.ensures.kept
+    c.self.invariant within there c.remove.ensures.kept c.remove-2.ensures.kept c.remove-3.ensures.kept c.remove.ensures.count c.remove-2.ensures.count c.remove-3.ensures.count
     c.remove.ensures.slots c.remove.ensures.length
     c.remove-2.ensures.slots (omega (arith, c.remove-2.ensures.length, ap one_of c.token_key.ensures.value))
     c.remove-3.ensures.slots (omega (arith, c.remove-3.ensures.length, ap one_of c.lapse_key.ensures.value)))
