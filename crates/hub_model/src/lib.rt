@@ -3,6 +3,8 @@
 
 pub mod event;
 pub mod moment;
+pub mod request;
 
 pub use event::{Events, HubEvent, HubOut, HubOuts};
 pub use moment::LAST_MOMENT;
+pub use request::{AskFault, Decision, Listing, Method, Opening, Request};

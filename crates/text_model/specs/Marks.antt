@@ -2,6 +2,7 @@
 use Rattle.std.specs.Prelude.{ℕ, ◌+◌, ◌/◌, ◌%◌, Bool, not, ◌&&◌, ◌||◌, List, [], ◌∷◌, ◌++◌, length, map, nat_lt, nat_le, ◌==◌, if◌then◌else◌, codes}
 use Rattle.std.specs.List.{flat_map, list_all, list_any}
 use Rattle.std.specs.Str.{bytes_eq}
+pub use Rattle.hub_model.specs.Ids.{is_name_byte, is_id_byte, is_id}
 use Rattle.schema_model.specs.declared.scalar.ScalarKind.{ScalarKind}
 use Rattle.schema_model.specs.declared.scalar.ScalarKind.TheVariants as kind
 
@@ -32,21 +33,9 @@ escaped b =
 abbrev pub quoted : List ℕ → List ℕ
 quoted t = 39 ∷ flat_map escaped t
 
--- a letter, a digit or `_`
-abbrev pub is_name_byte : ℕ → Bool
-is_name_byte b = (nat_le 97 b && nat_le b 122) || (nat_le 65 b && nat_le b 90) || (nat_le 48 b && nat_le b 57) || (b == 95)
-
--- a letter, a digit, `_` or `-`
-abbrev pub is_id_byte : ℕ → Bool
-is_id_byte b = is_name_byte b || (b == 45)
-
 -- 1 to 64 bytes
 abbrev pub has_name_length : List ℕ → Bool
 has_name_length w = nat_le 1 (length w) && nat_le (length w) 64
-
--- an id: nine of its characters
-abbrev pub is_id : List ℕ → Bool
-is_id w = (length w == 9) && list_all is_id_byte w
 
 -- the name of a room
 abbrev pub is_room_name : List ℕ → Bool

@@ -1,0 +1,3 @@
+mod RequestRows
+mod DecisionRows
+mod OpeningRows

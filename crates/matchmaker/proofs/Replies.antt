@@ -1,0 +1,73 @@
+-- Texts of replies.
+use Rattle.std.proofs.Common.{◌≡◌, ℕ, ◌<◌, true, false, List, [], ◌∷◌, ◌++◌, ◌==◌, arith, length, ap, ◌∙◌, refl, append_assoc, rules, String, Global, string_bytes}
+use Rattle.std.specs.Prelude.{Result, Ok, Err}
+use Rattle.std.specs.List.{list_all, flat_map}
+use Rattle.std.specs.Result.{MatchResult, IsOk}
+use Rattle.std.specs.Str.{IsAscii, IsUtf8}
+use Rattle.std.proofs.lemmas.Bool.{and_parts}
+use Rattle.std.proofs.lemmas.Bool.Decides.{nat_tests}
+use Rattle.std.proofs.lemmas.Str.{IsUtf8-from_ascii}
+use Rattle.std.proofs.lemmas.Str.Ascii.{IsAscii-nil, IsAscii-cons}
+use Rattle.serde_json.specs.Data.{string}
+use Rattle.serde_json.specs.View.{view}
+use Rattle.serde_json.specs.Written.{compact_text, has_float}
+use Rattle.serde_json.specs.declared.value.Value as value
+use Rattle.serde_json.specs.declared.value.Value.{the_lemmas}
+use Rattle.json.specs.Print.{escape_byte, quoted}
+use Rattle.hub_model.specs.Ids.{is_id, is_id_byte}
+use Rattle.hub_model.specs.Replies.{json_byte, json_text}
+
+-- ---- ids
+
+small_byte : (b : ℕ) → is_id_byte b ≡ true → b < 128
+small_byte b h = grind (arith, nat_tests)
+
+IsAscii-id_bytes : (w : List ℕ) → list_all is_id_byte w ≡ true → IsAscii w
+IsAscii-id_bytes [] h = IsAscii-nil
+IsAscii-id_bytes (b ∷ w) h =
+    let p = and_parts (is_id_byte b) (list_all is_id_byte w) h in IsAscii-cons b w (small_byte b p.0) (IsAscii-id_bytes w p.1)
+
+-- an id is UTF-8
+pub utf8_from_id : (w : List ℕ) → is_id w ≡ true → IsUtf8 w
+utf8_from_id w h = IsUtf8-from_ascii w (IsAscii-id_bytes w (and_parts (length w == 9) (list_all is_id_byte w) h).1)
+
+-- a result whose error tells that a fact isn't so, where it is so
+pub ok_of_cases : {T E : Type 0} (U : Type 0) (P : T → Type 0) (Q : E → Type 0) (r : Result T E) → MatchResult r P (λ e. (U → ⊥) × Q e) → U → IsOk r
+ok_of_cases U P Q (Ok x) h u = cc
+ok_of_cases U P Q (Err e) h u = absurd (h.0 u)
+
+-- ---- texts in quotes
+
+same_byte : (b : ℕ) → escape_byte b ≡ json_byte b
+unfolding escape_byte
+same_byte b = refl
+
+same_escapes : (t : List ℕ) → flat_map escape_byte t ≡ flat_map json_byte t
+same_escapes [] = refl
+same_escapes (b ∷ t) = rw (same_byte b, same_escapes t) refl
+
+view_text : (s : String Global) → view (value.String s) ≡ string (string_bytes s)
+view_text s = search (rules, the_lemmas)
+
+-- what is written for a value that is a text
+pub written_text : (s : String Global) (t : List ℕ) → (has_float (view (value.String s)) ≡ false → t ≡ compact_text (view (value.String s))) → t ≡ quoted (string_bytes s)
+written_text s t h = let w : has_float (string (string_bytes s)) ≡ false → t ≡ compact_text (string (string_bytes s)) = rw (view_text s) at h in w refl
+
+pub quoted_is : (t : List ℕ) → quoted t ≡ json_text t
+quoted_is t = rw (same_escapes t) refl
+
+-- ---- members
+
+six : (a b c d e f z : List ℕ) → (a ++ (b ++ (c ++ (d ++ (e ++ f))))) ++ z ≡ a ++ (b ++ (c ++ (d ++ (e ++ (f ++ z)))))
+six a b c d e f z = simp append_assoc
+
+-- two texts of members, each of six pieces, as one
+pub joined_members : (a b c d e f g h i j k l s t : List ℕ) → s ≡ a ++ (b ++ (c ++ (d ++ (e ++ f)))) → t ≡ g ++ (h ++ (i ++ (j ++ (k ++ l))))
+    → s ++ 44 ∷ (t ++ 125 ∷ []) ≡ a ++ (b ++ (c ++ (d ++ (e ++ (f ++ 44 ∷ (g ++ (h ++ (i ++ (j ++ (k ++ (l ++ 125 ∷ [])))))))))))
+joined_members a b c d e f g h i j k l s t is_s is_t =
+    ap (λ u. u ++ 44 ∷ (t ++ 125 ∷ [])) is_s ∙ (six a b c d e f (44 ∷ (t ++ 125 ∷ []))
+    ∙ ap (λ u. a ++ (b ++ (c ++ (d ++ (e ++ (f ++ 44 ∷ u)))))) (ap (λ u. u ++ 125 ∷ []) is_t ∙ six g h i j k l (125 ∷ [])))
+
+-- a text of three texts, where each is another's
+pub with_three : (f : List ℕ → List ℕ → List ℕ → List ℕ) (a b c d e g : List ℕ) → a ≡ d → b ≡ e → c ≡ g → f a b c ≡ f d e g
+with_three f a b c d e g p q r = ap (λ x. f x b c) p ∙ (ap (λ x. f d x c) q ∙ ap (λ x. f d e x) r)

@@ -1,0 +1,14 @@
+use Rattle.std.proofs.Common.{◌∙◌, sym, rules, tests}
+use Rattle.std.proofs.lemmas.Iterator.{YieldsList-from_slice}
+use Rattle.std.proofs.lemmas.Iterator.Search.{position_from_yields_List}
+use Rattle.std.specs.Str.{bytes_eq}
+use Rattle.hub_model.specs.declared.request.Listing.{Listing}
+use Rattle.matchmaker.proofs.listing.room_at.Goals as goal
+
+pub returns-in-Some : goal.returns-in-Some
+returns-in-Some c =
+    sym c.in-Some.is ∙ position_from_yields_List (λ (r : Listing). bytes_eq r.id c.args.id.now) _ _ c.position.result c.position.ensures.ran (YieldsList-from_slice c.args.rooms.now c.iter.ensures.rest) (λ x b q k. search (rules, tests))
+
+pub returns-in-None : goal.returns-in-None
+returns-in-None c =
+    sym c.in-None.is ∙ position_from_yields_List (λ (r : Listing). bytes_eq r.id c.args.id.now) _ _ c.position.result c.position.ensures.ran (YieldsList-from_slice c.args.rooms.now c.iter.ensures.rest) (λ x b q k. search (rules, tests))

@@ -1,0 +1,100 @@
+//! What a request leads to.
+ghost use Rattle.std.specs.Prelude.{◌≡◌, ◌<◌, ◌^◌, ◌++◌, codes, length, IfOk};
+ghost use Rattle.hub_model.specs.Decisions.{by_def, decide, joined_at, kept_at, room_at};
+ghost use Rattle.hub_model.specs.declared.request.Decision.TheVariants as decision;
+
+use crate::listing::{def_at, is_open_at, oldest, room_at};
+use hub_model::{Decision, Listing, Method, Request};
+use lists::{Memory, Text};
+use room_model::RoomDef;
+use schema_model::Id;
+use std::alloc::Global;
+
+/// What a request leads to. Rooms are in the order of their creation, and `kept` is the session whose seat is kept under
+/// the request's token in the room that it names. Memory is taken for the text of a refusal alone.
+pub fn decide(
+    alloc: Global,
+    defs: &[RoomDef],
+    rooms: &[Listing],
+    request: &Request,
+    kept: Option<Id>,
+) -> Result<Decision, Memory>
+    requires defs { length defs.now < 2 ^ 32 }
+    requires rooms { length rooms.now < 2 ^ 32 }
+    ensures { IfOk result (λ d. d ≡ decide defs.now rooms.now request.now kept) }
+{
+    match request.method {
+        Method::JoinById => joined_at(alloc, rooms, request.name.as_str()),
+        Method::Reconnect => kept_at(alloc, rooms, request.name.as_str(), kept),
+        Method::JoinOrCreate | Method::Create | Method::Join => by_def(alloc, defs, rooms, request),
+    }
+}
+
+// The oldest room that is open to the request, or what its method does where there is none.
+fn by_def(
+    alloc: Global,
+    defs: &[RoomDef],
+    rooms: &[Listing],
+    request: &Request,
+) -> Result<Decision, Memory>
+    requires defs { length defs.now < 2 ^ 32 }
+    requires rooms { length rooms.now < 2 ^ 32 }
+    ensures { IfOk result (λ d. d ≡ by_def defs.now rooms.now request.now) }
+{
+    let Some(def) = def_at(defs, request.name.as_str()) else {
+        return refuse(alloc, 4210, "no handler");
+    };
+    match request.method {
+        Method::JoinOrCreate => Ok(match oldest(rooms, def, request.criteria.as_slice()) {
+            Some(room) => Decision::Join(room),
+            None => Decision::Make(def),
+        }),
+        Method::Join => match oldest(rooms, def, request.criteria.as_slice()) {
+            Some(room) => Ok(Decision::Join(room)),
+            None => refuse(alloc, 4211, "no room meets the criteria"),
+        },
+        Method::Create | Method::JoinById | Method::Reconnect => Ok(Decision::Make(def)),
+    }
+}
+
+// The room of an id, unless it is locked or full.
+fn joined_at(alloc: Global, rooms: &[Listing], id: &str) -> Result<Decision, Memory>
+    requires { length rooms.now < 2 ^ 32 }
+    ensures { IfOk result (λ d. d ≡ joined_at rooms.now id.now (room_at rooms.now id.now)) }
+{
+    let Some(at) = room_at(rooms, id) else {
+        return refuse_room(alloc, id, "not found");
+    };
+    if is_open_at(rooms, at) {
+        Ok(Decision::Join(at))
+    } else {
+        refuse_room(alloc, id, "is locked")
+    }
+}
+
+// The seat of a session in the room of an id.
+fn kept_at(alloc: Global, rooms: &[Listing], id: &str, kept: Option<Id>) -> Result<Decision, Memory>
+    requires { length rooms.now < 2 ^ 32 }
+    ensures { IfOk result (λ d. d ≡ kept_at id.now kept (room_at rooms.now id.now)) }
+{
+    let Some(at) = room_at(rooms, id) else {
+        return refuse_room(alloc, id, "not found");
+    };
+    match kept {
+        Some(session) => Ok(Decision::Return(at, session)),
+        None => refuse(alloc, 4214, "seat expired"),
+    }
+}
+
+fn refuse(alloc: Global, code: u32, text: &str) -> Result<Decision, Memory>
+    ensures { IfOk result (λ d. d ≡ decision.Refuse code text.now) }
+{
+    Ok(Decision::Refuse(code, Text::from_text(alloc, text)?))
+}
+
+fn refuse_room(alloc: Global, id: &str, what: &str) -> Result<Decision, Memory>
+    ensures { IfOk result (λ d. d ≡ decision.Refuse 4212 (codes "room " ++ (id.now ++ (codes " " ++ what.now)))) }
+{
+    let text = format!(in alloc; "room {id} {what}")?;
+    Ok(Decision::Refuse(4212, Text::from_string(text)))
+}

@@ -1,0 +1,36 @@
+//! Ids as texts.
+ghost use Rattle.std.specs.Prelude.{◌≡◌, Option, Some, None, if◌then◌else◌};
+ghost use Rattle.hub_model.specs.Ids.{is_id, is_id_byte};
+
+use schema_model::Id;
+
+/// The id that a text is, where it is nine characters of `A-Z a-z 0-9 - _`.
+pub fn id_of(text: &[u8]) -> Option<Id>
+    ensures { result ≡ (if is_id text.now then Some text.now else None) }
+{
+    if !is_id_text(text) {
+        return None;
+    }
+    Some(Id(<[u8; 9]>::try_from(text).ok()?))
+}
+
+/// Whether an id has only the characters of one.
+pub fn is_id(id: Id) -> bool
+    ensures { result ≡ is_id id }
+{
+    is_id_text(&id.0)
+}
+
+// Nine characters of an id.
+fn is_id_text(text: &[u8]) -> bool
+    ensures { result ≡ is_id text.now }
+{
+    text.len() == 9 && text.iter().all(|byte| is_id_byte(*byte))
+}
+
+// A letter, a digit, `_` or `-`.
+fn is_id_byte(byte: u8) -> bool
+    ensures { result ≡ is_id_byte byte }
+{
+    byte.is_ascii_alphanumeric() || byte == b'_' || byte == b'-'
+}
