@@ -1,3 +1,4 @@
 mod RequestRows
 mod DecisionRows
 mod OpeningRows
+mod HubRows

@@ -4,3 +4,6 @@ pub mod Ids
 pub mod Requests
 pub mod Decisions
 pub mod Openings
+pub mod HubValues
+pub mod Dealt
+pub mod HubStep

@@ -13,7 +13,7 @@ use Rattle.room_model.specs.Room.{RoomValue, acted_on, on_session, with_sessions
 use Rattle.room_laws.proofs.PlacedSteps.{Stays}
 use Rattle.room_laws.proofs.SessionLists.{named_key}
 use Rattle.life_model.specs.Entries.{Entry, Sending}
-use Rattle.room_promises.specs.RoomLives.{RoomLife, given_by}
+use Rattle.life_model.specs.RoomLives.{RoomLife, given_by}
 use Rattle.room_promises.proofs.GoodLives.{held, Fits, GoesOn}
 use Rattle.room_promises.proofs.EventCases.{acted_cases}
 use Rattle.room_promises.proofs.LifeSteps.{StepsOn, goes_with, quiet, changed_here, changed_elsewhere}

@@ -21,7 +21,7 @@ use Rattle.room_model.specs.Sessions.{Session, Acted, with_members, with_keep, u
 use Rattle.room_model.specs.Room.{RoomValue, after_reserve, after_answer, made_outs, on_session, with_seats, session_after, outs_after}
 use Rattle.room_laws.proofs.PlacedSteps.{Stays}
 use Rattle.room_laws.proofs.SessionLists.{named_more}
-use Rattle.room_promises.specs.RoomLives.{RoomLife, given_by}
+use Rattle.life_model.specs.RoomLives.{RoomLife, given_by}
 use Rattle.room_promises.proofs.GoodLives.{held, GoesOn}
 use Rattle.room_promises.proofs.LifeSteps.{fits_still, StepsOn, quiet}
 use Rattle.room_promises.proofs.Acts.{acted_own, acted_other}

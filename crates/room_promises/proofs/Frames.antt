@@ -21,7 +21,7 @@ use Rattle.life_model.specs.Entries.{Entry, Record, Framed, Sending, Frame, Clos
 use Rattle.life_model.specs.Lives.{entry_if}
 use Rattle.life_model.specs.Sent as standing
 use Rattle.life_model.specs.Sent.{Standing, sent_for, sent_read, with_answer}
-use Rattle.room_promises.specs.RoomLives.{RoomLife, has_conn, given_by}
+use Rattle.life_model.specs.RoomLives.{RoomLife, has_conn, given_by}
 use Rattle.room_promises.proofs.GoodLives.{held, standing_at, Fits, GoesOn}
 use Rattle.room_promises.proofs.GivenOwn.{sent_to}
 use Rattle.room_promises.proofs.EventCases.{where_cases}

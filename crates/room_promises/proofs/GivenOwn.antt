@@ -10,7 +10,7 @@ use Rattle.room_model.specs.declared.event.RoomOut.TheVariants as out
 use Rattle.room_model.specs.Sessions.{Session, session_of}
 use Rattle.room_laws.specs.Placed.{AreDistinct}
 use Rattle.life_model.specs.Entries.{Sending, Frame}
-use Rattle.room_promises.specs.RoomLives.{given_by}
+use Rattle.life_model.specs.RoomLives.{given_by}
 
 -- frames that one session is sent
 pub sent_to : (q id : List ℕ) (frames : List (List ℕ)) → flat_map (given_by q) (map (out.Send id) frames) ≡ cond (bytes_eq id q) (map Frame frames) []

@@ -14,7 +14,7 @@ use Rattle.life_model.specs.Entries.{Entry, Record, Sending, Frame}
 use Rattle.life_model.specs.Promises.{with_sending, latest_frames}
 use Rattle.life_model.specs.Sent as standing
 use Rattle.life_model.specs.Sent.{Standing, Progress, progress_of, sent}
-use Rattle.room_promises.specs.RoomLives.{RoomLife}
+use Rattle.life_model.specs.RoomLives.{RoomLife}
 
 -- what its life depends on of a session: how far it is, what waits, and its permitted rows and pairs at the last tick
 pub record Held : Type 0 where

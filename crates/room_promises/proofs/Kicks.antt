@@ -16,7 +16,7 @@ use Rattle.room_model.specs.Room.{RoomValue, after_kick, ended}
 use Rattle.life_model.specs.Entries.{Entry, Kicked, Closing}
 use Rattle.life_model.specs.Lives.{entry_if}
 use Rattle.life_model.specs.Sent.{sent_for}
-use Rattle.room_promises.specs.RoomLives.{RoomLife, given_by}
+use Rattle.life_model.specs.RoomLives.{RoomLife, given_by}
 use Rattle.room_promises.proofs.GoodLives.{standing_at, GoesOn}
 use Rattle.room_promises.proofs.EventCases.{kick_cases}
 use Rattle.room_promises.proofs.LifeSteps.{quiet, StepsGood, steps_good, ends_with, ended_own, ended_other, one_session}

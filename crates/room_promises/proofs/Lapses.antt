@@ -17,7 +17,7 @@ use Rattle.room_laws.proofs.SessionLists.{named_but}
 use Rattle.life_model.specs.Entries.{Entry, Lapsed}
 use Rattle.life_model.specs.Lives.{entry_if}
 use Rattle.life_model.specs.Sent.{sent_for}
-use Rattle.room_promises.specs.RoomLives.{RoomLife, is_in, given_by}
+use Rattle.life_model.specs.RoomLives.{RoomLife, is_in, given_by}
 use Rattle.room_promises.proofs.GoodLives.{standing_at, GoesOn}
 use Rattle.room_promises.proofs.EventCases.{moment_cases}
 use Rattle.room_promises.proofs.LifeSteps.{quiet, StepsGood, steps_good, ends_with}

@@ -12,7 +12,7 @@ use Rattle.room_model.specs.declared.event.RoomEvent.TheVariants as event
 use Rattle.room_model.specs.Room.{join_frame, unread_frame}
 use Rattle.life_model.specs.Entries.{Record, Opened, Framed, Told, Ticked, Dropped, Kicked, Lapsed, Sending, Frame, Closing}
 use Rattle.life_model.specs.Sent.{full_frame}
-use Rattle.room_promises.specs.RoomLives.{RoomLife, room_run}
+use Rattle.life_model.specs.RoomLives.{RoomLife, room_run}
 use Rattle.room_promises.specs.RoomPromises.{CanPlay}
 use Rattle.room_promises.proofs.TwoLives.{purse}
 

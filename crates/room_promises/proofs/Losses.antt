@@ -15,7 +15,7 @@ use Rattle.room_model.specs.Room.{RoomValue, accepted, dropped, after_loss, ende
 use Rattle.life_model.specs.Entries.{Entry, Record, Dropped, Sending}
 use Rattle.life_model.specs.Lives.{entry_if}
 use Rattle.life_model.specs.Sent.{sent_for}
-use Rattle.room_promises.specs.RoomLives.{RoomLife, is_in, has_conn}
+use Rattle.life_model.specs.RoomLives.{RoomLife, is_in, has_conn}
 use Rattle.room_promises.proofs.GoodLives.{held, standing_at, Fits, GoesOn}
 use Rattle.room_promises.proofs.EventCases.{loss_cases}
 use Rattle.room_promises.proofs.LifeSteps.{recorded, goes_with, quiet, StepsGood, steps_good, ends_with, changed_here, changed_elsewhere, ended_own, ended_other, unheard, heard, overheard, one_session}

@@ -22,7 +22,7 @@ use Rattle.room_laws.proofs.SessionLists.{named_key, session_mapped}
 use Rattle.life_model.specs.Entries.{Record, Told, Sending, Frame}
 use Rattle.life_model.specs.Lives.{entry_if, is_at, is_open}
 use Rattle.life_model.specs.Sent.{progress_of}
-use Rattle.room_promises.specs.RoomLives.{RoomLife, has_conn, given_by}
+use Rattle.life_model.specs.RoomLives.{RoomLife, has_conn, given_by}
 use Rattle.room_promises.proofs.GoodLives.{held, IsMessage, AreMessages, progress_at, Fits, GoesOn}
 use Rattle.room_promises.proofs.GivenOwn.{sent_to, own_frames}
 use Rattle.room_promises.proofs.LifeSteps.{recorded, fits_still, fits_answered, StepsOn, goes_with}

@@ -20,7 +20,7 @@ use Rattle.life_model.specs.Entries.{Entry, Record, Opened, Sending, Frame}
 use Rattle.life_model.specs.Lives.{entry_if, is_at, is_open}
 use Rattle.life_model.specs.Sent as standing
 use Rattle.life_model.specs.Sent.{Progress}
-use Rattle.room_promises.specs.RoomLives.{RoomLife, has_conn, given_by}
+use Rattle.life_model.specs.RoomLives.{RoomLife, has_conn, given_by}
 use Rattle.room_promises.proofs.GoodLives.{held, AreMessages, Fits, GoesOn}
 use Rattle.room_promises.proofs.EventCases.{enter_cases}
 use Rattle.room_promises.proofs.LifeSteps.{recorded, unopened, StepsOn, goes_with, quiet, changed_here, changed_elsewhere}

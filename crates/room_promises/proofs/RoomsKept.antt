@@ -20,7 +20,7 @@ use Rattle.life_model.specs.Entries.{Sending}
 use Rattle.life_model.specs.Lives.{is_at, is_live_stage}
 use Rattle.life_model.specs.Promises.{latest_frames}
 use Rattle.life_model.specs.Sent.{sent}
-use Rattle.room_promises.specs.RoomLives.{RoomLife, RoomRun, run_step, room_run, is_live}
+use Rattle.life_model.specs.RoomLives.{RoomLife, RoomRun, run_step, room_run, is_live}
 use Rattle.room_promises.specs.RoomPromises.{Keeps, RoomsKeep, EqualRecordsEqualBytes}
 use Rattle.room_promises.proofs.GoodLives.{Held, held, SeesAt, GoesOn, GoodLife}
 use Rattle.room_promises.proofs.RoomSteps.{new_good}

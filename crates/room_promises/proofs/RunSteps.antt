@@ -26,7 +26,7 @@ use Rattle.room_laws.specs.Places.{may_happen, may_follow}
 use Rattle.room_laws.proofs.PlacedSteps.{added_stays, removed_stays, keep_stays}
 use Rattle.room_laws.proofs.SessionLists.{named_more, nobody}
 use Rattle.room_like.specs.Worded.{is_worded_event}
-use Rattle.room_promises.specs.RoomLives.{RoomLife, RoomRun, is_in, room_entries, given_by, view_after, lived, new_life, begun, run_step}
+use Rattle.life_model.specs.RoomLives.{RoomLife, RoomRun, is_in, room_entries, given_by, view_after, lived, new_life, begun, run_step}
 use Rattle.room_promises.proofs.GoodLives.{GoesOn, GoodLife, good_life, with_more}
 use Rattle.room_promises.proofs.Openings.{enter_on}
 use Rattle.room_promises.proofs.Frames.{frame_on}

@@ -15,7 +15,7 @@ use Rattle.room_laws.specs.Placed.{AreDistinct}
 use Rattle.room_laws.proofs.SessionLists.{session_mapped, distinct_mapped}
 use Rattle.life_model.specs.Entries.{Ticked, Frame}
 use Rattle.life_model.specs.Lives.{is_at, sees_ticks, tick_entries}
-use Rattle.room_promises.specs.RoomLives.{RoomLife, is_in, rows_for, room_entries, view_after, given_by}
+use Rattle.life_model.specs.RoomLives.{RoomLife, is_in, rows_for, room_entries, view_after, given_by}
 use Rattle.room_promises.proofs.GoodLives.{held, Fits, GoesOn, with_more}
 use Rattle.room_promises.proofs.GivenOwn.{own_frames}
 use Rattle.room_promises.proofs.TickFits.{TickDecodes, entries_at, fits_tick}

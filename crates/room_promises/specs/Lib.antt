@@ -1,3 +1,2 @@
-pub mod RoomLives
 pub mod RoomPromises
 pub mod Returns

@@ -22,7 +22,7 @@ use Rattle.room_model.specs.Ledger.{has_token}
 use Rattle.room_model.specs.Sessions.{Session, session_of}
 use Rattle.room_model.specs.Room.{RoomValue, room_step}
 use Rattle.life_model.specs.Entries.{Sending, Frame}
-use Rattle.room_promises.specs.RoomLives.{given_by, room_run}
+use Rattle.life_model.specs.RoomLives.{given_by, room_run}
 use Rattle.room_promises.specs.RoomPromises.{CanPlay}
 
 -- an output tells that a session came back

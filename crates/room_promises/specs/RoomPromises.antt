@@ -12,7 +12,7 @@ use Rattle.room_laws.specs.Places.{may_follow}
 use Rattle.room_like.specs.Worded.{is_worded_event}
 use Rattle.life_model.specs.Sent.{sent}
 use Rattle.life_model.specs.Promises.{latest_frames}
-use Rattle.room_promises.specs.RoomLives.{RoomLife, RoomRun, room_run, is_live}
+use Rattle.life_model.specs.RoomLives.{RoomLife, RoomRun, room_run, is_live}
 
 -- what is promised of a run of a definition
 pub record Keeps (schema : Schema) (def : RoomDef) (x : RoomRun) : Type 0 where
