@@ -1,8 +1,10 @@
 -- What reading a request gives of what a target and a body ask for.
-use Rattle.std.specs.Prelude.{◌≡◌, ◌<◌, ◌⊎◌, ◌||◌, ◌&&◌, ◌==◌, ℕ, Bool, List, length, nat_lt, Option, None, Result, Ok, Err, IsOk, IsTrue, is_some, ⊤}
+use Rattle.std.specs.Prelude.{◌≡◌, ◌<◌, ◌⊎◌, ◌||◌, ◌&&◌, ◌==◌, ℕ, Bool, true, false, List, length, nat_lt, Option, None, Result, Ok, Err, IsOk, IsTrue, is_some, ⊤}
 use Rattle.std.specs.List.{list_any}
 use Rattle.hub_model.specs.declared.request.AskFault.{AskFault}
 use Rattle.hub_model.specs.declared.request.AskFault.TheVariants.{BadPayload, Memory}
+use Rattle.hub_model.specs.declared.request.Decision.{Decision}
+use Rattle.hub_model.specs.declared.request.Decision.TheVariants.{Refuse}
 use Rattle.hub_model.specs.declared.request.Method.{Method}
 use Rattle.hub_model.specs.declared.request.Request.{Request}
 use Rattle.hub_model.specs.Requests.{asked_of}
@@ -36,3 +38,8 @@ abbrev pub MakesRequest : Result Request AskFault → Method → List ℕ → Li
 MakesRequest (Ok q) method name criteria token = q ≡ record { method = method; name = name; criteria = criteria; token = token }
 MakesRequest (Err Memory) method name criteria token = ⊤
 MakesRequest (Err f) method name criteria token = ⊥
+
+-- a request leads to a refusal
+abbrev pub is_refusal : Decision → Bool
+is_refusal (Refuse code text) = true
+is_refusal d = false

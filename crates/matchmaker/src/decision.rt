@@ -1,7 +1,8 @@
 //! What a request leads to.
-ghost use Rattle.std.specs.Prelude.{◌≡◌, ◌<◌, ◌^◌, ◌++◌, codes, length, IfOk};
+ghost use Rattle.std.specs.Prelude.{◌≡◌, ◌<◌, ◌^◌, ◌++◌, codes, length, true, IfOk, OnErr};
 ghost use Rattle.hub_model.specs.Decisions.{by_def, decide, joined_at, kept_at, room_at};
 ghost use Rattle.hub_model.specs.declared.request.Decision.TheVariants as decision;
+ghost use Rattle.matchmaker.specs.Gives.{is_refusal};
 
 use crate::listing::{def_at, is_open_at, oldest, room_at};
 use hub_model::{Decision, Listing, Method, Request};
@@ -21,7 +22,8 @@ pub fn decide(
 ) -> Result<Decision, Memory>
     requires defs { length defs.now < 2 ^ 32 }
     requires rooms { length rooms.now < 2 ^ 32 }
-    ensures { IfOk result (λ d. d ≡ decide defs.now rooms.now request.now kept) }
+    ensures value { IfOk result (λ d. d ≡ decide defs.now rooms.now request.now kept) }
+    ensures memory { OnErr result (is_refusal (decide defs.now rooms.now request.now kept) ≡ true) }
 {
     match request.method {
         Method::JoinById => joined_at(alloc, rooms, request.name.as_str()),
@@ -39,7 +41,8 @@ fn by_def(
 ) -> Result<Decision, Memory>
     requires defs { length defs.now < 2 ^ 32 }
     requires rooms { length rooms.now < 2 ^ 32 }
-    ensures { IfOk result (λ d. d ≡ by_def defs.now rooms.now request.now) }
+    ensures value { IfOk result (λ d. d ≡ by_def defs.now rooms.now request.now) }
+    ensures memory { OnErr result (is_refusal (by_def defs.now rooms.now request.now) ≡ true) }
 {
     let Some(def) = def_at(defs, request.name.as_str()) else {
         return refuse(alloc, 4210, "no handler");
@@ -60,7 +63,8 @@ fn by_def(
 // The room of an id, unless it is locked or full.
 fn joined_at(alloc: Global, rooms: &[Listing], id: &str) -> Result<Decision, Memory>
     requires { length rooms.now < 2 ^ 32 }
-    ensures { IfOk result (λ d. d ≡ joined_at rooms.now id.now (room_at rooms.now id.now)) }
+    ensures value { IfOk result (λ d. d ≡ joined_at rooms.now id.now (room_at rooms.now id.now)) }
+    ensures memory { OnErr result (is_refusal (joined_at rooms.now id.now (room_at rooms.now id.now)) ≡ true) }
 {
     let Some(at) = room_at(rooms, id) else {
         return refuse_room(alloc, id, "not found");
@@ -75,7 +79,8 @@ fn joined_at(alloc: Global, rooms: &[Listing], id: &str) -> Result<Decision, Mem
 // The seat of a session in the room of an id.
 fn kept_at(alloc: Global, rooms: &[Listing], id: &str, kept: Option<Id>) -> Result<Decision, Memory>
     requires { length rooms.now < 2 ^ 32 }
-    ensures { IfOk result (λ d. d ≡ kept_at id.now kept (room_at rooms.now id.now)) }
+    ensures value { IfOk result (λ d. d ≡ kept_at id.now kept (room_at rooms.now id.now)) }
+    ensures memory { OnErr result (is_refusal (kept_at id.now kept (room_at rooms.now id.now)) ≡ true) }
 {
     let Some(at) = room_at(rooms, id) else {
         return refuse_room(alloc, id, "not found");

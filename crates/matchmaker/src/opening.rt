@@ -11,7 +11,8 @@ use hub_model::Opening;
 use schema_model::Id;
 
 /// What a target opens: it is `/PROCESS/ROOM?QUERY`, where the query has a session and may have a token. Of a key that
-/// comes again the first value counts, and other keys are passed over.
+/// comes again the first value counts, and other keys are passed over; a piece without `=` has the empty value. A token that
+/// is no id makes it a target of another form. Nothing is percent-decoded.
 pub fn read_target(target: &str) -> Option<Opening>
     ensures { result ≡ read_target target.now }
 {

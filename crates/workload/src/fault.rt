@@ -1,5 +1,6 @@
 //! Why work gives no sum.
 use lists::Memory;
+use matchmaker::AskFault;
 use patch_decoder::OpFault;
 use room_model::SeatFault;
 use schema_reader::SchemaFault;
@@ -53,5 +54,11 @@ impl From<OpFault> for WorkFault {
 impl From<SchemaFault> for WorkFault {
     fn from(fault: SchemaFault) -> Self {
         WorkFault::of(matches!(fault, SchemaFault::Memory))
+    }
+}
+
+impl From<AskFault> for WorkFault {
+    fn from(fault: AskFault) -> Self {
+        WorkFault::of(matches!(fault, AskFault::Memory))
     }
 }

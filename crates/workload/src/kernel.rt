@@ -3,7 +3,7 @@ use crate::commands::Script;
 use crate::events::Crowd;
 use crate::fault::WorkFault;
 use crate::part::Part;
-use crate::{decoding, messages, packs, schemas, seats, tables, views};
+use crate::{decoding, messages, packs, requests, schemas, seats, tables, views};
 use std::alloc::Global;
 
 // Clients who look around.
@@ -45,10 +45,13 @@ pub enum Kernel {
     PackRead,
     PackWrite,
     PackLies,
+    /// Requests for a seat, and bodies.
+    Requests,
+    Bodies,
 }
 
 // Each with its name.
-const KERNELS: [(&str, Kernel); 22] = [
+const KERNELS: [(&str, Kernel); 24] = [
     ("things", Kernel::Commands(Script::Things)),
     ("players", Kernel::Commands(Script::Players)),
     ("numbers_back", Kernel::Commands(Script::NumbersBack)),
@@ -71,6 +74,8 @@ const KERNELS: [(&str, Kernel); 22] = [
     ("pack_read", Kernel::PackRead),
     ("pack_write", Kernel::PackWrite),
     ("pack_lies", Kernel::PackLies),
+    ("requests", Kernel::Requests),
+    ("bodies", Kernel::Bodies),
 ];
 
 impl Kernel {
@@ -104,6 +109,8 @@ impl Kernel {
             Kernel::PackRead => packs::read_players(alloc, size, done),
             Kernel::PackWrite => packs::write_players(alloc, size, done),
             Kernel::PackLies => packs::read_lies(alloc, size, done),
+            Kernel::Requests => requests::ask(alloc, size, done),
+            Kernel::Bodies => requests::read_bodies(alloc, size, done),
         }
     }
 }

@@ -13,6 +13,7 @@ mod kernel;
 mod messages;
 mod packs;
 mod part;
+mod requests;
 mod schemas;
 mod seats;
 mod sums;
