@@ -35,7 +35,7 @@ live_sees Joining schema rows h outputs view is s = cc
 live_sees Due schema rows h outputs view is s = cc
 live_sees Kept schema rows h outputs view is s = cc
 
-life_sees : (schema : Schema) (rows : List RowEntry) (x : RoomRun) (l : RoomLife) → GoodLife schema rows x.room.sessions l → is_live x.room l ≡ true → seen schema (latest_frames l.outputs) ≡ Ok l.view
+pub life_sees : (schema : Schema) (rows : List RowEntry) (x : RoomRun) (l : RoomLife) → GoodLife schema rows x.room.sessions l → is_live x.room l ≡ true → seen schema (latest_frames l.outputs) ≡ Ok l.view
 life_sees schema rows x l g live =
     let both = and_parts l.lasts (is_at is_live_stage (session_of x.room.sessions l.session)) live in
     let on : GoesOn schema rows x.room.sessions l = g.goes_on both.0 in

@@ -62,7 +62,7 @@ life_lived schema rows next r e l g steps = go l.lasts refl
     go false is = record { equal = g.equal; goes_on = λ h. absurd (cc) }
 
 -- a life behind a tick
-life_ticked : (schema : Schema) (last : State) (r : RoomValue) (l : RoomLife) → is_kept schema ≡ true → GoodRoom schema last r → GoodLife schema last.rows r.sessions l
+pub life_ticked : (schema : Schema) (last : State) (r : RoomValue) (l : RoomLife) → is_kept schema ≡ true → GoodRoom schema last r → GoodLife schema last.rows r.sessions l
     → GoodLife schema (swept r.state).rows (room_step r event.Tick).0.sessions (lived r event.Tick (room_step r event.Tick) l)
 life_ticked schema last r l kept room g =
     life_lived schema last.rows (swept r.state).rows r event.Tick l g (λ on. good_life schema (swept r.state).rows (room_step r event.Tick).0.sessions (stepped r event.Tick l) (steps on))
@@ -77,7 +77,7 @@ life_ticked schema last r l kept room g =
     steps = subst (λ s. GoesOn s last.rows r.sessions l → GoesOn s (swept r.state).rows (room_step r event.Tick).0.sessions (stepped r event.Tick l)) room.schema_is own
 
 -- and behind any other event
-life_stepped : (schema : Schema) (last : State) (r : RoomValue) (e : RoomEvent) (l : RoomLife) → is_tick e ≡ false → GoodRoom schema last r → GoodLife schema last.rows r.sessions l
+pub life_stepped : (schema : Schema) (last : State) (r : RoomValue) (e : RoomEvent) (l : RoomLife) → is_tick e ≡ false → GoodRoom schema last r → GoodLife schema last.rows r.sessions l
     → GoodLife schema last.rows (room_step r e).0.sessions (lived r e (room_step r e) l)
 life_stepped schema last r e l other room g = life_lived schema last.rows last.rows r e l g (λ on. by_event e other on)
   where
@@ -103,7 +103,7 @@ life_stepped schema last r e l other room g = life_lived schema last.rows last.r
     by_event event.Tick other on = cc
 
 -- a life that begins
-life_begun : (schema : Schema) (rows : List RowEntry) (r : RoomValue) (session : List ℕ) (lapse : ℕ) → is_in r session ≡ false
+pub life_begun : (schema : Schema) (rows : List RowEntry) (r : RoomValue) (session : List ℕ) (lapse : ℕ) → is_in r session ≡ false
     → GoodLife schema rows (room_step r (event.Reserve session lapse)).0.sessions (lived r (event.Reserve session lapse) (room_step r (event.Reserve session lapse)) (new_life r session))
 life_begun schema rows r session lapse new = good_life schema rows _ _ (record { session = mine; there = there; fits = record { progress = refl; queue = refl; sees = tt } })
   where

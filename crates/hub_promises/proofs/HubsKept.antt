@@ -1,0 +1,91 @@
+-- Hubs keep their promises, over every list of events that may come.
+use Rattle.std.proofs.Common.{◌≡◌, ℕ, ◌&&◌, true, false, List, [], ◌∷◌, take, Option, Some, None, is_some, Ok, Result, refl, sym, ap, ◌∙◌, arith}
+use Rattle.std.specs.Prelude.{Contains, option_and_then}
+use Rattle.std.specs.List.{fold, list_all}
+use Rattle.std.proofs.lemmas.Bool.{and_parts}
+use Rattle.std.proofs.lemmas.List.Elements.{All-nil, All-contains, All-take}
+use Rattle.std.proofs.lemmas.List.Sums.{AllPass-from_list_all, list_all-from_AllPass}
+use Rattle.schema_model.specs.Classes.{Schema, is_kept}
+use Rattle.wire_model.specs.Decoded.{seen}
+use Rattle.room_model.specs.declared.definition.RoomDef.{RoomDef}
+use Rattle.room_model.specs.Definitions.{is_room_def}
+use Rattle.room_model.specs.Sessions.{session_of}
+use Rattle.hub_model.specs.declared.event.HubEvent.{HubEvent}
+use Rattle.hub_model.specs.declared.request.AskFault.{AskFault}
+use Rattle.hub_model.specs.declared.request.Request.{Request}
+use Rattle.hub_model.specs.HubValues.{HubRoom, is_named, room_of, new_hub}
+use Rattle.life_model.specs.Lives.{is_at, is_live_stage}
+use Rattle.life_model.specs.Promises.{latest_frames}
+use Rattle.life_model.specs.Sent.{sent}
+use Rattle.life_model.specs.HubLives.{HubLife, HubRun, in_room, session_in, run_step, hub_run, is_live}
+use Rattle.life_model.specs.HubPromises.{rules_of, may_come, CanRun, HubKeeps, HubsKeep, HubsGiveEqualBytes}
+use Rattle.room_promises.proofs.GoodLives.{GoesOn}
+use Rattle.room_promises.proofs.RoomsKept.{life_sees}
+use Rattle.lists.proofs.SameBytes.{same_bytes}
+use Rattle.hub_promises.proofs.Different.{found_in, found_passes}
+use Rattle.hub_promises.proofs.GoodHubs.{GoodPlace, GoodEnd, GoodHub}
+use Rattle.hub_promises.proofs.HubSteps.{step_good}
+
+-- ---- a good hub keeps the promises
+
+life_sees_here : (schema : Schema) (x : HubRun) (l : HubLife) → GoodHub schema x → Contains x.lives l → is_live x.hub l ≡ true → seen schema (latest_frames l.outputs) ≡ Ok l.view
+life_sees_here schema x l g there live = by_room (room_of x.hub l.room) refl
+  where
+    lasts : l.lasts ≡ true
+    lasts = (and_parts l.lasts (is_at is_live_stage (session_in x.hub l.room l.session)) live).0
+
+    end : GoodEnd schema x.hub l
+    end = All-contains (GoodEnd schema x.hub) x.lives l g.lives there
+
+    by_room : (o : Option HubRoom) → room_of x.hub l.room ≡ o → seen schema (latest_frames l.outputs) ≡ Ok l.view
+    by_room None found = (let some = end.there lasts in let empty : is_some (room_of x.hub l.room) ≡ false = ap is_some found in cc)
+    by_room (Some r) found =
+        let place = All-contains (GoodPlace schema x.hub.defs x.lives) x.hub.rooms r g.rooms (found_in (is_named l.room) x.hub.rooms r found) in
+        let on : GoesOn schema place.last.rows r.room.sessions (in_room l) = All-contains (λ (l : HubLife). l.lasts ≡ true → l.room ≡ r.id → GoesOn schema place.last.rows r.room.sessions (in_room l)) x.lives l place.goes_on there lasts
+        (sym (same_bytes r.id l.room (found_passes (is_named l.room) x.hub.rooms r found))) in
+        life_sees schema place.last.rows (record { room = r.room; lives = [] }) (in_room l) (record { equal = end.equal; goes_on = λ h. on })
+        (sym (ap (λ o. l.lasts && is_at is_live_stage (option_and_then (λ (r : HubRoom). session_of r.room.sessions l.session) o)) found) ∙ live)
+
+good_keeps : (schema : Schema) (x : HubRun) → GoodHub schema x → HubKeeps schema x
+good_keeps schema x g = record {
+  sees = λ l there live. life_sees_here schema x l g there live;
+  equal = λ l there. (All-contains (GoodEnd schema x.hub) x.lives l g.lives there).equal;
+  places = λ r there. (All-contains (GoodPlace schema x.hub.defs x.lives) x.hub.rooms r g.rooms there).room.within;
+}
+
+-- ---- every run
+
+runs_good : (read : List RoomDef → List ℕ → List ℕ → Result Request AskFault) (schema : Schema) (x : HubRun) (es : List HubEvent) → is_kept schema ≡ true → list_all may_come es ≡ true → GoodHub schema x → GoodHub schema (fold (run_step (rules_of read)) x es)
+runs_good read schema x [] kept come g = g
+runs_good read schema x (e ∷ es) kept come g =
+    let c = and_parts (may_come e) (list_all may_come es) come in
+    runs_good read schema (run_step (rules_of read) x e) es kept c.1 (step_good read schema x e kept c.0 g)
+
+new_good : (schema : Schema) (process : List ℕ) (defs : List RoomDef) → list_all is_room_def defs ≡ true → GoodHub schema (record { hub = new_hub schema process defs; lives = [] })
+new_good schema process defs forms = record {
+  schema_is = refl;
+  early = omega arith;
+  forms = forms;
+  differ = tt;
+  numbers = tt;
+  steps = λ room session. refl;
+  rooms = All-nil _;
+  lives = All-nil _;
+}
+
+run_keeps : (read : List RoomDef → List ℕ → List ℕ → Result Request AskFault) (schema : Schema) (process : List ℕ) (defs : List RoomDef) (events : List HubEvent) → CanRun schema defs events → HubKeeps schema (hub_run (rules_of read) (new_hub schema process defs) events)
+run_keeps read schema process defs events can =
+    good_keeps schema (hub_run (rules_of read) (new_hub schema process defs) events)
+    (runs_good read schema (record { hub = new_hub schema process defs; lives = [] }) events can.schema_kept can.come (new_good schema process defs can.forms))
+
+pub hubs_keep : HubsKeep
+hubs_keep read schema process defs events can n =
+    run_keeps read schema process defs (take n events) (record {
+      schema_kept = can.schema_kept;
+      forms = can.forms;
+      come = list_all-from_AllPass may_come (take n events) (All-take (λ e. may_come e ≡ true) n events (AllPass-from_list_all may_come events can.come));
+    })
+
+pub hubs_give_equal_bytes : HubsGiveEqualBytes
+hubs_give_equal_bytes read schema process other defs others events happened can may k l there here same =
+    (run_keeps read schema process defs events can).equal k there ∙ (ap (sent schema) same ∙ sym ((run_keeps read schema other others happened may).equal l here))

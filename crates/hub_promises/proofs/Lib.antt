@@ -1,0 +1,17 @@
+pub mod Different
+pub mod Deals
+pub mod Openings
+pub mod Connected
+pub mod Decided
+pub mod Asked
+pub mod EventsFit
+pub mod Conns
+pub mod Given
+pub mod Owned
+pub mod Outputs
+pub mod Moves
+pub mod GoodHubs
+pub mod LivesMove
+pub mod HubSteps
+pub mod HubsKept
+mod HubLifeRows
