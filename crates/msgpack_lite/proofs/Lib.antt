@@ -1,3 +1,4 @@
+mod Weighed
 pub mod Again
 pub mod AgainParts
 pub mod BuildLaws

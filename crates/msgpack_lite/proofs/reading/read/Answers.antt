@@ -6,6 +6,7 @@ use Rattle.frame_model.specs.Packs.{read_pack}
 use Rattle.frame_model.proofs.NoMemory.{Reads, read_pack-reads}
 use Rattle.msgpack_lite.specs.Ends.{is_read}
 use Rattle.msgpack_lite.specs.Gives.{GivesPack}
+use Rattle.msgpack_lite.proofs.Weighed.{is_within}
 use Rattle.msgpack_lite.proofs.reading.read.Goals as goal
 
 -- the fault of bytes that are no value
@@ -24,9 +25,14 @@ given r (Trailing n) h k = k
 given r (Reserved n) h k = k
 given r Memory h k = absurd (subst Reads k h)
 
-pub returns-in_err-check : goal.returns-in_err-check
-returns-in_err-check c =
+pub returns-in_err-check-clause-value : goal.returns-in_err-check-clause-value
+returns-in_err-check-clause-value c =
     let e = c.in_err-check.field-0.0 in
     let is : c.from_residual.result ≡ Err e = grind arith in
     let r = read_pack c.args.bytes.now in
     rw is (given r e (read_pack-reads c.args.bytes.now) (faulty r e c.in_err-check.ensures))
+
+pub returns-clause-within : goal.returns-clause-within
+returns-clause-within c =
+    let e = c.in_ok-pack.ensures in
+    is_within c.args.bytes.now _ c.in_ok-pack.field-0-1 e.value e.within
