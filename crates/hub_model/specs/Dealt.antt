@@ -8,10 +8,11 @@ use Rattle.room_model.specs.declared.event.RoomEvent.{RoomEvent}
 use Rattle.room_model.specs.declared.event.RoomOut.{RoomOut}
 use Rattle.room_model.specs.declared.event.RoomOut.TheVariants as room_out
 use Rattle.room_model.specs.Room.{RoomValue}
-use Rattle.room_laws.specs.StepLaws.{is_end}
+use Rattle.room_model.specs.Outs.{is_end}
 use Rattle.hub_model.specs.declared.event.HubOut.{HubOut}
 use Rattle.hub_model.specs.declared.event.HubOut.TheVariants as out
-use Rattle.hub_model.specs.HubValues.{HubRoom, HubConn, conn_for}
+use Rattle.hub_model.specs.declared.conn.HubConn.{HubConn}
+use Rattle.hub_model.specs.HubValues.{HubRoom, conn_for}
 
 -- the step of rooms
 abbrev pub RoomStep : Type 0

@@ -12,7 +12,7 @@ use Rattle.room_model.specs.declared.refusal.Refusal.TheVariants as refusal
 use Rattle.room_model.specs.Seats.{in_use}
 use Rattle.room_model.specs.Ledger.{expire, kept_by}
 use Rattle.room_model.specs.Room.{new_room}
-use Rattle.room_laws.specs.StepLaws.{is_entry}
+use Rattle.room_model.specs.Outs.{is_entry}
 use Rattle.hub_model.specs.declared.event.HubEvent.{HubEvent}
 use Rattle.hub_model.specs.declared.event.HubEvent.TheVariants.{At, Ask, Bad, Opening, Frame, Lost, Act as Acted, Tick}
 use Rattle.hub_model.specs.declared.event.HubOut.{HubOut}
@@ -26,7 +26,8 @@ use Rattle.hub_model.specs.declared.request.Request.{Request}
 use Rattle.hub_model.specs.Decisions.{decide}
 use Rattle.hub_model.specs.Openings.{read_target}
 use Rattle.hub_model.specs.Replies.{refusal_reply, seat_reply}
-use Rattle.hub_model.specs.HubValues.{HubValue, HubRoom, HubConn, room_of, conn_of, conn_number, is_named, is_used, def_of_room, listings}
+use Rattle.hub_model.specs.declared.conn.HubConn.{HubConn}
+use Rattle.hub_model.specs.HubValues.{HubValue, HubRoom, room_of, conn_of, conn_number, is_named, is_used, def_of_room, listings}
 use Rattle.hub_model.specs.Dealt.{RoomStep, Dealt, dealt, told_out, opened_out, refused_opening, in_use_text, conns_left}
 
 -- what a hub rests on: the step of its rooms, and what a target and a body ask for

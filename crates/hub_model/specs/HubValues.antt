@@ -9,6 +9,7 @@ use Rattle.room_model.specs.declared.definition.RoomDef.{RoomDef}
 use Rattle.room_model.specs.Seats.{in_use}
 use Rattle.room_model.specs.Sessions.{session_of}
 use Rattle.room_model.specs.Room.{RoomValue}
+use Rattle.hub_model.specs.declared.conn.HubConn.{HubConn}
 use Rattle.hub_model.specs.declared.request.Listing.{Listing}
 
 -- a room of a hub: its id, its definition by position, the criteria of its creation, and what it is
@@ -17,12 +18,6 @@ pub record HubRoom : Type 0 where
   pub def : ℕ
   pub criteria : List (List ℕ)
   pub room : RoomValue
-
--- a connection with its room and session
-pub record HubConn : Type 0 where
-  pub conn : ℕ
-  pub room : List ℕ
-  pub session : List ℕ
 
 pub record HubValue : Type 0 where
   pub now : ℕ

@@ -23,7 +23,8 @@ use Rattle.hub_model.specs.declared.event.HubEvent.{HubEvent}
 use Rattle.hub_model.specs.declared.request.AskFault.{AskFault}
 use Rattle.hub_model.specs.declared.request.Opening.{Opening as Opens}
 use Rattle.hub_model.specs.declared.request.Request.{Request}
-use Rattle.hub_model.specs.HubValues.{HubValue, HubRoom, HubConn, conn_number, is_named, is_conn_for}
+use Rattle.hub_model.specs.declared.conn.HubConn.{HubConn}
+use Rattle.hub_model.specs.HubValues.{HubValue, HubRoom, conn_number, is_named, is_conn_for}
 use Rattle.hub_model.specs.Dealt.{Dealt, dealt, ends, conns_left}
 use Rattle.hub_model.specs.HubStep.{deals, all_dealt, enters, conns_with, is_needed}
 use Rattle.life_model.specs.HubPromises.{rules_of}

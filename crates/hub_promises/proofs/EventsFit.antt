@@ -24,9 +24,11 @@ use Rattle.room_like.specs.Worded.{is_worded_event}
 use Rattle.hub_model.specs.declared.event.HubEvent.{HubEvent}
 use Rattle.hub_model.specs.declared.event.HubEvent.TheVariants.{At, Ask, Bad, Opening, Frame, Lost, Act as Acted, Tick}
 use Rattle.hub_model.specs.declared.request.Opening.{Opening as Opens}
-use Rattle.hub_model.specs.HubValues.{HubValue, HubRoom, HubConn, is_named, conn_of, conn_number, is_conn_for, def_of_room}
+use Rattle.hub_model.specs.declared.conn.HubConn.{HubConn}
+use Rattle.hub_model.specs.HubValues.{HubValue, HubRoom, is_named, conn_of, conn_number, is_conn_for, def_of_room}
 use Rattle.hub_model.specs.HubStep.{Rules, room_made, decided, reserved_in, opened_by, event_if, event_in, event_of_conn, event_of_opening, deals, makes, moment_at, lapses_by}
-use Rattle.life_model.specs.HubPromises.{is_worded_act, may_come}
+use Rattle.room_model.specs.Acts.{is_worded_act}
+use Rattle.life_model.specs.HubPromises.{may_come}
 use Rattle.hub_promises.proofs.Different.{passes_any, named_own, differ_more}
 use Rattle.hub_promises.proofs.Deals.{RoomsDiffer, Few, rooms_for, connected_at}
 use Rattle.hub_promises.proofs.Asked.{New, request_reserves, def_fits}

@@ -10,7 +10,8 @@ use Rattle.room_model.specs.declared.event.RoomOut.TheVariants as room_out
 use Rattle.room_laws.specs.StepLaws.{goes_to, is_entry}
 use Rattle.hub_model.specs.declared.event.HubOut.{HubOut}
 use Rattle.hub_model.specs.declared.event.HubOut.TheVariants as out
-use Rattle.hub_model.specs.HubValues.{HubConn, is_conn_for, conn_for}
+use Rattle.hub_model.specs.declared.conn.HubConn.{HubConn}
+use Rattle.hub_model.specs.HubValues.{is_conn_for, conn_for}
 use Rattle.hub_model.specs.Dealt.{to_conn, told_out, opened_out}
 use Rattle.life_model.specs.Entries.{Sending, Frame, Closing}
 use Rattle.life_model.specs.RoomLives.{given_by}

@@ -7,7 +7,8 @@ use Rattle.room_laws.specs.StepLaws.{opens}
 use Rattle.hub_model.specs.declared.event.HubEvent.{HubEvent}
 use Rattle.hub_model.specs.declared.event.HubEvent.TheVariants.{At, Ask, Bad, Opening, Frame, Lost, Act, Tick}
 use Rattle.hub_model.specs.declared.request.Opening.{Opening as Opens}
-use Rattle.hub_model.specs.HubValues.{HubValue, HubRoom, HubConn, is_named, conn_of, def_of_room, conn_number}
+use Rattle.hub_model.specs.declared.conn.HubConn.{HubConn}
+use Rattle.hub_model.specs.HubValues.{HubValue, HubRoom, is_named, conn_of, def_of_room, conn_number}
 use Rattle.hub_model.specs.Dealt.{Dealt, dealt}
 use Rattle.hub_model.specs.HubStep.{Rules, reserved_in, decided, opened_by, opening_of, entered_conns, event_if, event_in, event_of_conn, event_of_opening, deals, conns_with, moment_at, lapses_by, enters}
 use Rattle.lists.specs.Rising.{RisesFrom, put}

@@ -20,7 +20,8 @@ use Rattle.room_model.specs.declared.refusal.Refusal.TheVariants as refusal
 use Rattle.hub_model.specs.declared.request.AskFault.{AskFault}
 use Rattle.hub_model.specs.declared.request.Opening.{Opening as Opens}
 use Rattle.hub_model.specs.declared.request.Request.{Request}
-use Rattle.hub_model.specs.HubValues.{HubValue, HubRoom, HubConn, is_named, conn_of, room_of, conn_for, is_conn_for}
+use Rattle.hub_model.specs.declared.conn.HubConn.{HubConn}
+use Rattle.hub_model.specs.HubValues.{HubValue, HubRoom, is_named, conn_of, room_of, conn_for, is_conn_for}
 use Rattle.hub_model.specs.Dealt.{Dealt, dealt, told_out, opened_out, refused_opening}
 use Rattle.hub_model.specs.HubStep.{deals, makes, all_dealt, event_if, event_of_opening, opened_by, opening_of, opening_refused, enters, conns_with, tells, first_outs, last_outs, disposals, created_out, is_needed, hub_step}
 use Rattle.life_model.specs.Entries.{Sending}

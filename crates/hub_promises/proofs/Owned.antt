@@ -11,7 +11,8 @@ use Rattle.hub_model.specs.declared.event.HubEvent.{HubEvent}
 use Rattle.hub_model.specs.declared.request.AskFault.{AskFault}
 use Rattle.hub_model.specs.declared.request.Opening.{Opening as Opens}
 use Rattle.hub_model.specs.declared.request.Request.{Request}
-use Rattle.hub_model.specs.HubValues.{HubValue, HubRoom, HubConn, is_named, conn_number, conn_of, is_conn_for, conn_for}
+use Rattle.hub_model.specs.declared.conn.HubConn.{HubConn}
+use Rattle.hub_model.specs.HubValues.{HubValue, HubRoom, is_named, conn_number, conn_of, is_conn_for, conn_for}
 use Rattle.hub_model.specs.Dealt.{Dealt, ends}
 use Rattle.hub_model.specs.HubStep.{deals, all_dealt, enters, conns_with, hub_step}
 use Rattle.life_model.specs.HubPromises.{rules_of}

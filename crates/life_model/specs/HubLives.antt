@@ -14,7 +14,8 @@ use Rattle.hub_model.specs.declared.event.HubEvent.{HubEvent}
 use Rattle.hub_model.specs.declared.event.HubEvent.TheVariants as event
 use Rattle.hub_model.specs.declared.event.HubOut.{HubOut}
 use Rattle.hub_model.specs.declared.event.HubOut.TheVariants as out
-use Rattle.hub_model.specs.HubValues.{HubValue, HubRoom, HubConn, is_named, room_of, is_conn_for}
+use Rattle.hub_model.specs.declared.conn.HubConn.{HubConn}
+use Rattle.hub_model.specs.HubValues.{HubValue, HubRoom, is_named, room_of, is_conn_for}
 use Rattle.hub_model.specs.Dealt.{RoomStep}
 use Rattle.hub_model.specs.HubStep.{Rules, decided, reserved_in, answered_in, deals, makes, hub_step}
 use Rattle.life_model.specs.Entries.{Entry, Record, Asked, Sending, Frame, Closing}

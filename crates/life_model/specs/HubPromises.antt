@@ -3,15 +3,12 @@
 use Rattle.std.specs.Prelude.{◌≡◌, ℕ, ◌≤◌, Bool, true, ◌&&◌, List, take, Contains, Ok, Result}
 use Rattle.std.specs.List.{list_all}
 use Rattle.schema_model.specs.Classes.{Schema, is_kept}
-use Rattle.state_model.specs.Worded.{is_worded_command}
 use Rattle.wire_model.specs.Decoded.{seen}
 use Rattle.room_model.specs.declared.definition.RoomDef.{RoomDef}
-use Rattle.room_model.specs.declared.event.Act.{Act}
-use Rattle.room_model.specs.declared.event.Act.TheVariants as act
 use Rattle.room_model.specs.Definitions.{is_room_def}
 use Rattle.room_model.specs.Seats.{in_use}
 use Rattle.room_model.specs.Room.{room_step}
-use Rattle.room_laws.specs.Places.{may_act}
+use Rattle.room_model.specs.Acts.{may_act, is_worded_act}
 use Rattle.hub_model.specs.declared.event.HubEvent.{HubEvent}
 use Rattle.hub_model.specs.declared.event.HubEvent.TheVariants as event
 use Rattle.hub_model.specs.declared.request.Request.{Request}
@@ -23,11 +20,6 @@ use Rattle.life_model.specs.Promises.{latest_frames}
 use Rattle.life_model.specs.HubLives.{HubLife, HubRun, hub_run, is_live}
 
 -- ---- events that may come
-
--- the texts that an act's command puts are UTF-8, as those of every command are that a program has
-abbrev pub is_worded_act : Act → Bool
-is_worded_act (act.State command) = is_worded_command command
-is_worded_act a = true
 
 -- an act is within the limits; every other event may come
 abbrev pub may_come : HubEvent → Bool

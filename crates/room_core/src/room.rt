@@ -166,6 +166,10 @@ impl RoomLike for Room {
     fn kept_by(&self, token: Id) -> Option<Id> {
         self.parts.places.kept_by(token)
     }
+
+    fn next_lapse(&self) -> Option<u64> {
+        self.parts.places.next_lapse()
+    }
 }
 
 // The step of a room. What an `Err` leaves is in order, and no step is made from it.

@@ -1,14 +1,11 @@
 -- Rooms over lists of events: what a caller has to see to, and that the places in use never pass the room's. Ours.
-use Rattle.std.specs.Prelude.{◌≡◌, ℕ, ◌≤◌, Bool, true, false, not, ◌&&◌, List, [], ◌∷◌, length, is_some, nat_le, nat_lt}
+use Rattle.std.specs.Prelude.{◌≡◌, ℕ, ◌≤◌, Bool, true, false, not, ◌&&◌, List, [], ◌∷◌, is_some, nat_lt}
 use Rattle.std.specs.List.{fold}
 use Rattle.std.specs.Option.{option_map_or}
 use Rattle.schema_model.specs.Classes.{Schema}
-use Rattle.frame_model.specs.declared.frame.MsgKind.{MsgKind}
-use Rattle.frame_model.specs.declared.frame.MsgKind.TheVariants as kind
-use Rattle.room_model.specs.Limits.{longest_time, moment_bound, kind_bound}
+use Rattle.room_model.specs.Limits.{moment_bound}
+pub use Rattle.room_model.specs.Acts.{is_short_kind, may_act}
 use Rattle.room_model.specs.declared.definition.RoomDef.{RoomDef}
-use Rattle.room_model.specs.declared.event.Act.{Act}
-use Rattle.room_model.specs.declared.event.Act.TheVariants as act
 use Rattle.room_model.specs.declared.event.RoomEvent.{RoomEvent}
 use Rattle.room_model.specs.declared.event.RoomEvent.TheVariants as event
 use Rattle.room_model.specs.Seats.{in_use}
@@ -27,19 +24,6 @@ has_place_for r session = not r.seats.locked && not (is_full r.seats) && not (is
 -- a number may be a moment or a lapse
 abbrev pub is_moment : ℕ → Bool
 is_moment at = nat_lt at moment_bound
-
--- a message may be about this
-abbrev pub is_short_kind : MsgKind → Bool
-is_short_kind (kind.Name name) = nat_lt (length name) kind_bound
-is_short_kind (kind.Num n) = true
-
--- an act may happen: messages are about short kinds, and the time for which a seat is kept is within the limits
-abbrev pub may_act : Act → Bool
-may_act (act.Send session kind payload) = is_short_kind kind
-may_act (act.Raw session kind payload) = is_short_kind kind
-may_act (act.ToAll kind payload) = is_short_kind kind
-may_act (act.Keep session ms) = nat_le ms longest_time
-may_act a = true
 
 -- an event may happen to a room: a reservation of a session that it has a place for; a frame and a loss of a session that
 -- has a connection; any opening, any tick; moments and lapses within their bound, and acts within the limits

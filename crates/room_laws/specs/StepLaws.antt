@@ -1,60 +1,16 @@
 -- What whoever runs rooms may rely on of each step: who is connected, and what is given to whom. Ours.
-use Rattle.std.specs.Prelude.{◌≡◌, ℕ, ◌≤◌, Bool, true, false, not, ◌&&◌, ◌||◌, List, length, filter, Option, Some, None, is_some, if◌then◌else◌}
+use Rattle.std.specs.Prelude.{◌≡◌, ℕ, ◌≤◌, Bool, true, false, not, ◌&&◌, ◌||◌, List, length, filter, Some, is_some, if◌then◌else◌}
 use Rattle.std.specs.List.{list_any}
-use Rattle.std.specs.Str.{bytes_eq}
 use Rattle.schema_model.specs.Classes.{Schema}
 use Rattle.room_model.specs.declared.definition.RoomDef.{RoomDef}
 use Rattle.room_model.specs.declared.event.RoomEvent.{RoomEvent}
-use Rattle.room_model.specs.declared.event.RoomEvent.TheVariants as event
 use Rattle.room_model.specs.declared.event.RoomOut.{RoomOut}
-use Rattle.room_model.specs.declared.event.RoomOut.TheVariants as out
+pub use Rattle.room_model.specs.Outs.{is_answer, is_entry, is_loss, is_end, goes_to, opens, loses}
 use Rattle.room_model.specs.Seats.{in_use}
 use Rattle.room_model.specs.Sessions.{is_connected}
 use Rattle.room_model.specs.Room.{RoomValue, new_room, room_step}
 use Rattle.room_laws.specs.Places.{may_happen, may_follow, room_after}
 use Rattle.room_laws.specs.Placed.{stands}
-
--- an output answers an opening
-abbrev pub is_answer : RoomOut → Bool
-is_answer (out.Entered s) = true
-is_answer (out.Back s) = true
-is_answer (out.NoSeat s) = true
-is_answer (out.TokenInUse s) = true
-is_answer o = false
-
--- it enters a session
-abbrev pub is_entry : List ℕ → RoomOut → Bool
-is_entry id (out.Entered s) = bytes_eq s id
-is_entry id (out.Back s) = bytes_eq s id
-is_entry id o = false
-
--- it tells that a session was dropped or left
-abbrev pub is_loss : List ℕ → RoomOut → Bool
-is_loss id (out.Dropped s) = bytes_eq s id
-is_loss id (out.Left s) = bytes_eq s id
-is_loss id o = false
-
--- it ends a session's connection
-abbrev pub is_end : List ℕ → RoomOut → Bool
-is_end id (out.Close s code) = bytes_eq s id
-is_end id (out.Dropped s) = bytes_eq s id
-is_end id (out.Left s) = bytes_eq s id
-is_end id o = false
-
--- it goes to a session's connection
-abbrev pub goes_to : List ℕ → RoomOut → Bool
-goes_to id (out.Send s bytes) = bytes_eq s id
-goes_to id (out.Close s code) = bytes_eq s id
-goes_to id o = false
-
--- the session that an event opens, and the one whose connection it loses
-abbrev pub opens : RoomEvent → Option (List ℕ)
-opens (event.Enter session token fresh) = Some session
-opens e = None
-
-abbrev pub loses : RoomEvent → Option (List ℕ)
-loses (event.Lost session now) = Some session
-loses e = None
 
 -- a session of a room is connected
 abbrev pub connected : RoomValue → List ℕ → Bool

@@ -1,7 +1,7 @@
 //! A room, for whoever runs it.
 ghost use Rattle.std.specs.Prelude.{◌≡◌, ◌+◌, ◌≤◌, false, is_some, IfOk, IsErr, IsTrue, OnErr, OnOk};
 ghost use Rattle.room_model.specs.Definitions.{is_room_def};
-ghost use Rattle.room_model.specs.Ledger.{kept_by as keeper_of};
+ghost use Rattle.room_model.specs.Ledger.{IsNextLapse, kept_by as keeper_of};
 ghost use Rattle.room_model.specs.Room.{new_room};
 ghost use Rattle.room_model.specs.Seats.{in_use as places_in_use};
 ghost use Rattle.room_model.specs.Sessions.{session_of};
@@ -87,6 +87,10 @@ pub trait RoomLike: Sized + Drop {
     /// The session whose kept seat has this token.
     fn kept_by(&self, token: Id) -> Option<Id>
         ensures { result ≡ keeper_of (room self.now).seats token };
+
+    /// The least moment at which a reservation or a kept seat of it lapses; `None` where none does.
+    fn next_lapse(&self) -> Option<u64>
+        ensures { IsNextLapse (room self.now).seats result };
 
     /// A new room is in order.
     ghost begins: { (schema : Schema) (def : RoomDef) (criteria : List (List ℕ)) → Holds (new_room schema def criteria) };

@@ -1,5 +1,5 @@
 -- The calls of a seat ledger: what each makes of a room's places, or why it is refused. After Colyseus 0.16.
-use Rattle.std.specs.Prelude.{ℕ, Bool, false, List, [], ◌∷◌, Option, Some, None, is_some, nat_lt, nat_le, if◌then◌else◌, Result, Ok, Err}
+use Rattle.std.specs.Prelude.{◌≡◌, ℕ, Bool, false, List, [], ◌∷◌, Option, Some, None, is_some, nat_lt, nat_le, if◌then◌else◌, Result, Ok, Err}
 use Rattle.std.specs.List.{find, flat_map, list_any}
 use Rattle.std.specs.Option.{option_map}
 use Rattle.std.specs.Str.{bytes_eq}
@@ -121,3 +121,11 @@ expired s (Some a) = Some (a.session, left_seat s a.session)
 
 abbrev pub expire : Seats → ℕ → Option (List ℕ × Seats)
 expire s now = expired s (first_due (due_entries s now))
+
+-- the least lapse of all tells what lapses by a moment
+abbrev pub is_due : ℕ → Option ℕ → Bool
+is_due now None = false
+is_due now (Some lapse) = nat_le lapse now
+
+abbrev pub IsNextLapse : Seats → Option ℕ → Type 0
+IsNextLapse s lapse = (now : ℕ) → is_some (expire s now) ≡ is_due now lapse

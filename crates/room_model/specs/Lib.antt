@@ -4,3 +4,5 @@ pub mod Limits
 pub mod Sessions
 pub mod Room
 pub mod Definitions
+pub mod Outs
+pub mod Acts

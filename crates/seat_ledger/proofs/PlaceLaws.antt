@@ -1,6 +1,6 @@
 -- Entries with their indexes: what is found, and what holds as one is added, changed and taken out.
 use Rattle.std.proofs.Common.{◌≡◌, ℕ, zero, suc, ◌+◌, ◌<◌, ◌≤◌, Bool, true, false, cond, ◌&&◌, ◌||◌, ◌==◌, List, [], ◌∷◌, ◌++◌, length, set, get_or, refl, sym, ap, ap₂, subst, ◌∙◌, arith, ltb, Option, Some, None}
-use Rattle.std.specs.Prelude.{slice_get}
+use Rattle.std.specs.Prelude.{slice_get, is_some, nat_le}
 use Rattle.std.specs.List.{remove}
 use Rattle.std.specs.Str.{bytes_eq}
 use Rattle.std.proofs.lemmas.Bool.Decides.{nat_tests}
@@ -11,12 +11,12 @@ use Rattle.room_model.specs.declared.seat.Seat.{Seat}
 use Rattle.room_model.specs.declared.seat.Seat.TheVariants.{Reserved}
 use Rattle.room_model.specs.declared.seat.SeatEntry.{SeatEntry}
 use Rattle.room_model.specs.Seats.{Seats}
-use Rattle.room_model.specs.Ledger.{expired, first_due, lapse_of, has_as_token, is_kept_by}
+use Rattle.room_model.specs.Ledger.{expired, first_due, is_due, lapse_of, has_as_token, is_kept_by}
 use Rattle.seat_ledger.specs.Calls.{LapsesAt}
 use Rattle.seat_ledger.specs.Slots.{comes_before, IndexState, has_slot, is_key, one_of}
 use Rattle.seat_ledger.specs.Keys.{id_number, IsId, HasIdAsToken, AreIds, token_key, by_session, by_token, by_lapse}
 use Rattle.seat_ledger.specs.Held.{holds, passes, IsOnce}
-use Rattle.seat_ledger.specs.Places.{IsKept, IsNew, IsPlaceOf, IsSessionPlace, IsOwnToken, IsPlaceWith, IsUnused, IsDuePlace}
+use Rattle.seat_ledger.specs.Places.{due_of, IsKept, IsNew, IsPlaceOf, IsSessionPlace, IsOwnToken, IsPlaceWith, IsUnused, IsDuePlace}
 use Rattle.seat_ledger.proofs.HeldLaws.{holds_get, holds_within, indexed_more, indexed_set, indexed_removed, once_more, once_set, once_removed, none_found, none_any, only_found, only_any, only_filtered, only_mapped, narrower_found, none_found_of}
 use Rattle.seat_ledger.proofs.EntryLaws.{session_passes, token_passes, kept_is_token, ids_more, ids_set, ids_removed, id_at, none_due, first_of_due}
 
@@ -92,6 +92,17 @@ later_is now key at es l least = ap first_due (none_due now es (λ q p h. (let n
 
 pub no_lapse_is : (now : ℕ) (es : List SeatEntry) → ((q p : ℕ) → holds by_lapse es q p ≡ false) → IsDuePlace now es None
 no_lapse_is now es none = ap first_due (none_due now es (λ q p h. absurd (let no : (let t : Bool = true in t) ≡ false = sym h ∙ none q p in cc)))
+
+-- the least lapse tells what lapses by a moment
+pub next_is : (now key at : ℕ) (es : List SeatEntry) (e : SeatEntry) → holds by_lapse es key at ≡ true → ((q p : ℕ) → holds by_lapse es q p ≡ true → comes_before q p key at ≡ false) → slice_get es at ≡ Some e
+    → is_some (first_due (due_of now es)) ≡ is_due now (lapse_of e.seat)
+next_is now key at es e there least found =
+    let lapse : lapse_of e.seat ≡ Some key = key_is key (lapse_of e.seat) (sym (holds_get by_lapse es at e key found) ∙ there) in
+    let go : (b : Bool) → nat_le key now ≡ b → is_some (first_due (due_of now es)) ≡ b = elim [
+      | true ↦ λ l. (let due = (due_is now key at es there (let low : key ≤ now = grind (arith, nat_tests, l) in low) least).1 e found in ap is_some due.1)
+      | false ↦ λ l. ap is_some (later_is now key at es (let high : now < key = grind (arith, nat_tests, l) in high) least)
+    ] in
+    go (nat_le key now) refl ∙ sym (ap (is_due now) lapse)
 
 -- where the first entry stands that lapses by a moment, expiring takes it
 pub lapses_at : (now : ℕ) (s : Seats) (o : Option ℕ) → IsDuePlace now s.entries o → LapsesAt now s o

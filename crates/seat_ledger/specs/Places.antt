@@ -1,11 +1,11 @@
 -- The entries of places with their indexes: what holds of them, and what is found.
-use Rattle.std.specs.Prelude.{◌≡◌, ℕ, ◌<◌, ◌≤◌, ◌^◌, true, false, not, List, Option, Some, None, length, map, filter, slice_get, slice_set, if◌then◌else◌}
+use Rattle.std.specs.Prelude.{◌≡◌, ℕ, ◌<◌, ◌≤◌, ◌^◌, true, false, not, List, Option, Some, None, length, map, filter, is_some, slice_get, slice_set, if◌then◌else◌}
 use Rattle.std.specs.List.{find, list_any, flat_map, remove}
 use Rattle.std.specs.Str.{bytes_eq}
 use Rattle.room_model.specs.declared.seat.Seat.{Seat}
 use Rattle.room_model.specs.declared.seat.SeatEntry.{SeatEntry}
 use Rattle.room_model.specs.Seats.{seated_entry}
-use Rattle.room_model.specs.Ledger.{Lapse, due_at, first_due, has_as_token, is_kept_by, lapse_of}
+use Rattle.room_model.specs.Ledger.{Lapse, due_at, first_due, is_due, has_as_token, is_kept_by, lapse_of}
 use Rattle.seat_ledger.specs.Slots.{IndexState, is_key}
 use Rattle.seat_ledger.specs.Keys.{AreIds, by_lapse, by_session, by_token, id_number, token_key}
 use Rattle.seat_ledger.specs.Held.{holds, IsIndexed, IsOnce}
@@ -77,3 +77,7 @@ due_of now es = flat_map (λ (e : SeatEntry). due_at now e.session (lapse_of e.s
 abbrev pub IsDuePlace : ℕ → List SeatEntry → Option ℕ → Type 0
 IsDuePlace now es None = first_due (due_of now es) ≡ None
 IsDuePlace now es (Some at) = (at < length es) × ((e : SeatEntry) → slice_get es at ≡ Some e → (lapse : ℕ) × (first_due (due_of now es) ≡ Some (record { session = e.session; at = lapse })))
+
+-- what is found of the least lapse
+abbrev pub IsLeastLapse : List SeatEntry → Option ℕ → Type 0
+IsLeastLapse es lapse = (now : ℕ) → is_some (first_due (due_of now es)) ≡ is_due now lapse

@@ -32,6 +32,17 @@ pub fn token_key(seat: &Seat) -> Option<u128>
 }
 
 /// The moment at which a seat lapses.
+pub fn lapse_of(seat: &Seat) -> Option<u64>
+    ensures { result ≡ lapse_of seat.now }
+{
+    match seat {
+        Seat::Reserved(lapse) => Some(*lapse),
+        Seat::Taken(_) => None,
+        Seat::Kept(_, lapse) => Some(*lapse),
+    }
+}
+
+/// That moment as a key.
 pub fn lapse_key(seat: &Seat) -> Option<u128>
     ensures value { result ≡ lapse_of seat.now }
 {

@@ -141,6 +141,13 @@ impl SeatLedger {
         self.places.first_due(now)
     }
 
+    /// The least moment at which an entry lapses; `None` where none does.
+    pub fn next_lapse(&self) -> Option<u64>
+        ensures { ledger.IsNextLapse self.now result }
+    {
+        self.places.next_lapse()
+    }
+
     /// Sets the mark that an act locked the places.
     pub fn set_locked(&mut self, on: bool)
         ensures { self.new ≡ ledger.set_locked self.old on }

@@ -3,10 +3,10 @@ ghost use Rattle.std.specs.Prelude.{◌≡◌, ◌≤◌, ◌<◌, ◌++◌, [],
 ghost use Rattle.std.specs.List.{remove};
 ghost use Rattle.room_model.specs.declared.seat.SeatEntry.{SeatEntry};
 ghost use Rattle.room_model.specs.declared.seat.Seat.TheVariants.{Reserved};
-ghost use Rattle.seat_ledger.specs.Places.{IsDuePlace, IsNew, IsOwnToken, IsPlaceOf, IsSessionPlace, IsTokenPlace};
+ghost use Rattle.seat_ledger.specs.Places.{IsDuePlace, IsLeastLapse, IsNew, IsOwnToken, IsPlaceOf, IsSessionPlace, IsTokenPlace};
 
 use crate::index::Index;
-use crate::keys::{id_key, lapse_key, token_key};
+use crate::keys::{id_key, lapse_key, lapse_of, token_key};
 use room_model::{Seat, SeatEntry};
 use schema_model::{Id, Memory};
 use std::alloc::Global;
@@ -88,6 +88,14 @@ impl Places {
         } else {
             None
         }
+    }
+
+    /// The least lapse of the entries; none where nothing lapses.
+    pub fn next_lapse(&self) -> Option<u64>
+        ensures { IsLeastLapse self.now.entries result }
+    {
+        let slot = self.by_lapse.least()?;
+        lapse_of(&self.entry(slot.at).seat)
     }
 
     /// The entry at a place.

@@ -1,0 +1,4 @@
+//! A hub of rooms, over whatever is a room.
+#![tactic(auto)]
+
+mod conns;
