@@ -1,5 +1,5 @@
 -- What a body says: a JSON object, by serde_json's reading of it.
-use Rattle.std.specs.Prelude.{ℕ, ◌==◌, List, [], ◌∷◌, length, Option, Some, None, codes, if◌then◌else◌, option_and_then}
+use Rattle.std.specs.Prelude.{ℕ, Bool, ◌||◌, ◌==◌, List, [], ◌∷◌, length, Option, Some, None, codes, if◌then◌else◌, option_and_then}
 use Rattle.std.specs.Option.{option_map_or}
 use Rattle.std.specs.Str.{is_utf8}
 use Rattle.hub_model.specs.Ids.{is_id}
@@ -8,6 +8,7 @@ use Rattle.serde_json.specs.Data.{Data, Members, no_members, member, string}
 use Rattle.serde_json.specs.Find.{as_object, get}
 use Rattle.serde_json.specs.Read.{read}
 use Rattle.serde_json.specs.Written.{compact_text, has_float}
+use Rattle.validate.specs.Json.{is_json}
 
 -- the members of an object, each with its compact text
 abbrev pub members_said : Members → List Member
@@ -43,3 +44,7 @@ abbrev pub said_by : List ℕ → Option Said
 said_by body =
     if length body == 0 then Some (record { members = []; token = None })
     else if is_utf8 body then option_and_then said_of_data (read body) else None
+
+-- it can be read: it is empty, or a JSON text
+abbrev pub can_be_read : List ℕ → Bool
+can_be_read body = (length body == 0) || is_json body

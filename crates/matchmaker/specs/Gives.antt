@@ -1,6 +1,5 @@
 -- What reading a request gives of what a target and a body ask for.
-use Rattle.std.specs.Prelude.{◌≡◌, ◌<◌, ◌⊎◌, ◌||◌, ◌&&◌, ◌==◌, ℕ, Bool, true, false, List, length, nat_lt, Option, None, Result, Ok, Err, IsOk, IsTrue, is_some, ⊤}
-use Rattle.std.specs.List.{list_any}
+use Rattle.std.specs.Prelude.{◌≡◌, ◌&&◌, ℕ, Bool, true, false, List, Option, None, Result, Ok, Err, IsOk, IsTrue, is_some, ⊤}
 use Rattle.hub_model.specs.declared.request.AskFault.{AskFault}
 use Rattle.hub_model.specs.declared.request.AskFault.TheVariants.{BadPayload, Memory}
 use Rattle.hub_model.specs.declared.request.Decision.{Decision}
@@ -8,18 +7,20 @@ use Rattle.hub_model.specs.declared.request.Decision.TheVariants.{Refuse}
 use Rattle.hub_model.specs.declared.request.Method.{Method}
 use Rattle.hub_model.specs.declared.request.Request.{Request}
 use Rattle.hub_model.specs.Requests.{asked_of}
-use Rattle.matchmaker.specs.Bodies.{said_by}
+use Rattle.matchmaker.specs.Bodies.{can_be_read, said_by}
 
--- a target with a '%'
-abbrev pub has_escape : List ℕ → Bool
-has_escape = list_any (λ b. b == 37)
-
--- exactly the request, or the first point by which there is none; or want of memory, which may come before it is known whether there is
--- a request: from the escapes of a target, or from a body that isn't empty, where the target asks for something
+-- exactly the request, or the first point by which there is none; or want of memory, where the target asks for something and the
+-- body can be read
 abbrev pub GivesRequest : List ℕ → List ℕ → Result Request AskFault → Result Request AskFault → Type 0
 GivesRequest target body (Ok q) there = there ≡ Ok q
-GivesRequest target body (Err Memory) there = IsOk there ⊎ IsTrue (has_escape target || (is_some (asked_of target) && nat_lt 0 (length body)))
+GivesRequest target body (Err Memory) there = IsTrue (is_some (asked_of target) && can_be_read body)
 GivesRequest target body (Err f) there = there ≡ Err f
+
+-- the same of a target that asks for something and a body that can be read
+abbrev pub GivesAsked : Result Request AskFault → Result Request AskFault → Type 0
+GivesAsked (Ok q) there = there ≡ Ok q
+GivesAsked (Err Memory) there = ⊤
+GivesAsked (Err f) there = there ≡ Err f
 
 -- the same of what was read, where want of memory comes only once there is a request
 abbrev pub GivesFound : Result Request AskFault → Result Request AskFault → Type 0
@@ -30,7 +31,7 @@ GivesFound (Err f) there = there ≡ Err f
 -- why a body isn't given
 abbrev pub LacksBody : List ℕ → AskFault → Type 0
 LacksBody body BadPayload = said_by body ≡ None
-LacksBody body Memory = 0 < length body
+LacksBody body Memory = ⊤
 LacksBody body f = ⊥
 
 -- the request of these parts, or want of memory

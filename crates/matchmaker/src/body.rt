@@ -4,7 +4,7 @@ ghost use Rattle.serde_json.specs.View.{view};
 ghost use Rattle.serde_json.specs.Written.{has_float};
 ghost use Rattle.hub_model.specs.Requests.{said_of};
 ghost use Rattle.hub_model.specs.declared.request.AskFault.TheVariants.{BadPayload};
-ghost use Rattle.matchmaker.specs.Bodies.{all_said, id_said, members_in, said_by, said_of_data, token_in};
+ghost use Rattle.matchmaker.specs.Bodies.{all_said, can_be_read, id_said, members_in, said_by, said_of_data, token_in};
 ghost use Rattle.matchmaker.specs.Gives.{LacksBody};
 
 use crate::id::id_of;
@@ -14,6 +14,14 @@ use lists::{Memory, Text};
 use schema_model::Id;
 use serde_json::{Map, Value};
 use std::alloc::Global;
+use validate::is_json;
+
+/// Whether a body can be read: it is empty or a JSON text. It takes no memory.
+pub fn can_be_read(body: &[u8]) -> bool
+    ensures { result ≡ can_be_read body.now }
+{
+    body.is_empty() || is_json(body)
+}
 
 /// The object that a body is; an empty body is an empty one. `BadPayload` where it is none, or has a number that is no
 /// whole one of 64 bits.

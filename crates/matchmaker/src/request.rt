@@ -1,13 +1,15 @@
 //! What a target and a body ask for.
-ghost use Rattle.std.specs.Prelude.{◌≡◌, false, map, None, option_copied, IfOk};
+ghost use Rattle.std.specs.Prelude.{◌≡◌, true, false, map, None, option_copied, IfOk};
+ghost use Rattle.std.specs.Str.{is_utf8};
+ghost use Rattle.percent_encoding.specs.Percent.{percent_decode};
 ghost use Rattle.serde_json.specs.View.{view};
 ghost use Rattle.serde_json.specs.Written.{has_float};
-ghost use Rattle.hub_model.specs.Requests.{def_of, read_request, request_of, said_of};
+ghost use Rattle.hub_model.specs.Requests.{def_of, read_request, request_of, said_of, with_body};
 ghost use Rattle.matchmaker.specs.Bodies.{all_said, members_in, said_by, token_in};
-ghost use Rattle.matchmaker.specs.Gives.{GivesRequest, GivesFound, MakesRequest};
+ghost use Rattle.matchmaker.specs.Gives.{GivesAsked, GivesFound, GivesRequest, MakesRequest};
 
-use crate::body::{read_body, said_of, token_of};
-use crate::target::asked_of;
+use crate::body::{can_be_read, read_body, said_of, token_of};
+use crate::target::{asked_of, name_from};
 use hub_model::{AskFault, Method, Request};
 use lists::{Memory, Seq, Text};
 use room_model::{RoomDef, Texts};
@@ -17,7 +19,7 @@ use std::alloc::Global;
 
 /// What a target and a body ask for. `NoMethod` where the target asks for nothing; then `BadPayload` where the body is no
 /// object of whole numbers, or a request by a token has none of nine id characters; then `NoHandler` where no definition
-/// has the name. `Memory` may also come of reading the escapes of a target, or a body that isn't empty.
+/// has the name. Memory is taken only once the target asks for something and its body is known to be JSON.
 pub fn read_request(
     alloc: Global,
     defs: &[RoomDef],
@@ -26,12 +28,31 @@ pub fn read_request(
 ) -> Result<Request, AskFault>
     ensures { GivesRequest target.now body.now result (read_request defs.now target.now (said_by body.now)) }
 {
-    match asked_of(alloc, target) {
-        Ok(Some((method, name))) => {
+    let Some((method, raw)) = asked_of(target) else {
+        return Err(AskFault::NoMethod);
+    };
+    if !can_be_read(body) {
+        return Err(AskFault::BadPayload);
+    }
+    asked_for(alloc, defs, method, raw, body)
+}
+
+// What a method, a name as it stands in a target, and a body ask for.
+fn asked_for(
+    alloc: Global,
+    defs: &[RoomDef],
+    method: Method,
+    raw: &[u8],
+    body: &[u8],
+) -> Result<Request, AskFault>
+    requires { is_utf8 (percent_decode raw.now) ≡ true }
+    ensures { GivesAsked result (with_body defs.now (method, percent_decode raw.now) (said_by body.now)) }
+{
+    match name_from(alloc, raw) {
+        Ok(name) => {
             let said = read_body(alloc, body)?;
             request_of(alloc, defs, method, name.as_str(), &said)
         }
-        Ok(None) => Err(AskFault::NoMethod),
         Err(_) => Err(AskFault::Memory),
     }
 }

@@ -1,15 +1,17 @@
 //! What the target of a request asks for.
-ghost use Rattle.std.specs.Prelude.{◌≡◌, ◌++◌, codes, true, option_map, IfOk, OnErr};
+ghost use Rattle.std.specs.Prelude.{◌≡◌, ◌++◌, codes, true, option_map, IfOk, IfSome};
 ghost use Rattle.std.specs.Cow.{cow_str_bytes};
+ghost use Rattle.std.specs.Str.{is_utf8};
+ghost use Rattle.percent_encoding.specs.Percent.{percent_decode};
 ghost use Rattle.hub_model.specs.Requests.{asked_of, behind_front, first_asked, method_word, name_of, named_by, up_to};
-ghost use Rattle.matchmaker.specs.Gives.{has_escape};
 
 use crate::text::{behind_front, up_to};
 use hub_model::Method;
 use lists::Memory;
-use percent_encoding::{DecodeError, percent_decode};
+use percent_encoding::percent_decode;
 use std::alloc::Global;
 use std::borrow::CowStr;
+use validate::is_escaped_text;
 
 // The methods in the order in which they are tried.
 const METHODS: [Method; 5] = [
@@ -20,45 +22,60 @@ const METHODS: [Method; 5] = [
     Method::Reconnect,
 ];
 
-/// The method and the name that a target asks for: it is `/matchmake/METHOD/NAME`, with any query. Memory is taken only
-/// where the name has an escape.
-pub fn asked_of(alloc: Global, target: &str) -> Result<Option<(Method, CowStr<'_, Global>)>, Memory>
-    ensures value { IfOk result (λ o. option_map (λ a. (a.0, cow_str_bytes a.1)) o ≡ asked_of target.now) }
-    ensures memory { OnErr result (has_escape target.now ≡ true) }
+/// The method that a target asks for, and the name as it stands there: the target is `/matchmake/METHOD/NAME`, with any
+/// query, and the name is a text where its escapes are read. It takes no memory.
+pub fn asked_of(target: &str) -> Option<(Method, &[u8])>
+    ensures value { option_map (λ a. (a.0, percent_decode a.1.now)) result ≡ asked_of target.now }
+    ensures text { IfSome result (λ a. is_utf8 (percent_decode a.1.now) ≡ true) }
 {
-    first_asked(alloc, &METHODS, target.as_bytes())
+    first_asked(&METHODS, target.as_bytes())
 }
 
 // The first of these methods that a target asks for.
-fn first_asked<'a>(
-    alloc: Global,
-    methods: &[Method],
-    target: &'a [u8],
-) -> Result<Option<(Method, CowStr<'a, Global>)>, Memory>
-    ensures value { IfOk result (λ o. option_map (λ a. (a.0, cow_str_bytes a.1)) o ≡ first_asked methods.now target.now) }
-    ensures memory { OnErr result (has_escape target.now ≡ true) }
+fn first_asked<'a>(methods: &[Method], target: &'a [u8]) -> Option<(Method, &'a [u8])>
+    ensures value { option_map (λ a. (a.0, percent_decode a.1.now)) result ≡ first_asked methods.now target.now }
+    ensures text { IfSome result (λ a. is_utf8 (percent_decode a.1.now) ≡ true) }
 {
     let [method, methods @ ..] = methods else {
-        return Ok(None);
+        return None;
     };
-    match named_by(alloc, *method, target)? {
-        Some(name) => Ok(Some((*method, name))),
-        None => first_asked(alloc, methods, target),
+    match named_by(*method, target) {
+        Some(name) => Some((*method, name)),
+        None => first_asked(methods, target),
     }
 }
 
 // The name that a target asks for by a method.
-fn named_by<'a>(
-    alloc: Global,
-    method: Method,
-    target: &'a [u8],
-) -> Result<Option<CowStr<'a, Global>>, Memory>
-    ensures value { IfOk result (λ o. option_map (λ n. cow_str_bytes n) o ≡ named_by method target.now) }
-    ensures memory { OnErr result (has_escape target.now ≡ true) }
+fn named_by(method: Method, target: &[u8]) -> Option<&[u8]>
+    ensures value { option_map (λ n. percent_decode n.now) result ≡ named_by method target.now }
+    ensures text { IfSome result (λ n. is_utf8 (percent_decode n.now) ≡ true) }
 {
     match raw_name(method, target) {
-        Some(raw) => name_of(alloc, raw),
-        None => Ok(None),
+        Some(raw) => named(raw),
+        None => None,
+    }
+}
+
+// A name as it stands in a target, where it is one.
+fn named(raw: &[u8]) -> Option<&[u8]>
+    ensures value { option_map (λ n. percent_decode n.now) result ≡ name_of raw.now }
+    ensures text { IfSome result (λ n. is_utf8 (percent_decode n.now) ≡ true) }
+{
+    if !raw.is_empty() && !raw.contains(&b'/') && is_escaped_text(raw) {
+        Some(raw)
+    } else {
+        None
+    }
+}
+
+/// A name with its escapes read.
+pub fn name_from(alloc: Global, raw: &[u8]) -> Result<CowStr<'_, Global>, Memory>
+    requires { is_utf8 (percent_decode raw.now) ≡ true }
+    ensures { IfOk result (λ name. cow_str_bytes name ≡ percent_decode raw.now) }
+{
+    match percent_decode(raw).decode_utf8(alloc) {
+        Ok(name) => Ok(name),
+        Err(_) => Err(Memory),
     }
 }
 
@@ -92,20 +109,5 @@ fn word(method: Method) -> &'static [u8]
         Method::Join => b"join",
         Method::JoinById => b"joinById",
         Method::Reconnect => b"reconnect",
-    }
-}
-
-// A name as it stands in a target, with its escapes read.
-fn name_of<'a>(alloc: Global, raw: &'a [u8]) -> Result<Option<CowStr<'a, Global>>, Memory>
-    ensures value { IfOk result (λ o. option_map (λ n. cow_str_bytes n) o ≡ name_of raw.now) }
-    ensures memory { OnErr result (has_escape raw.now ≡ true) }
-{
-    if raw.is_empty() || raw.contains(&b'/') {
-        return Ok(None);
-    }
-    match percent_decode(raw).decode_utf8(alloc) {
-        Ok(name) => Ok(Some(name)),
-        Err(DecodeError::Utf8(_)) => Ok(None),
-        Err(DecodeError::OutOfMemory) => Err(Memory),
     }
 }

@@ -20,7 +20,6 @@ pub fn up_to(byte: u8, text: &[u8]) -> &[u8]
 }
 
 /// What is behind the first byte that is this one; nothing where there is none.
-
 pub fn behind(byte: u8, text: &[u8]) -> &[u8]
     ensures { result.now ≡ behind byte text.now }
 {

@@ -1,10 +1,12 @@
-use Rattle.std.proofs.Common.{◌≡◌, Err, rules}
-use Rattle.std.specs.Cow.{cow_str_bytes}
-use Rattle.matchmaker.proofs.Asking.{not_given}
+use Rattle.std.proofs.Common.{◌≡◌, Some, false, rules}
+use Rattle.percent_encoding.specs.Percent.{percent_decode}
+use Rattle.hub_model.specs.Requests.{asked_of}
+use Rattle.matchmaker.specs.Bodies.{can_be_read}
+use Rattle.matchmaker.proofs.Asking.{refused}
 use Rattle.matchmaker.proofs.request.read_request.Goals as goal
 
-pub returns-in_err-said-in-Ok-Some : goal.returns-in_err-said-in-Ok-Some
-returns-in_err-said-in-Ok-Some c =
-    let is : c.from_residual.result ≡ Err c.in_err-said-in-Ok-Some.field-0.0 = search rules in
-    not_given c.args.defs.now c.args.target.now c.args.body.now (c.in-Ok-Some.method, cow_str_bytes c.in-Ok-Some.name) c.in_err-said-in-Ok-Some.field-0.0 _ is
-    (rw c.in-Ok-Some.field-0-is at c.in-Ok-Some.ensures.value) c.in_err-said-in-Ok-Some.ensures.err
+pub returns-then-not-can_be_read : goal.returns-then-not-can_be_read
+returns-then-not-can_be_read c =
+    let asked : Some (c.in-Some.method, percent_decode c.in-Some.raw.now) ≡ asked_of c.args.target.now = c.in-Some.ensures.value in
+    let reads : can_be_read c.args.body.now ≡ false = search rules in
+    refused c.args.defs.now c.args.target.now c.args.body.now (c.in-Some.method, percent_decode c.in-Some.raw.now) asked reads

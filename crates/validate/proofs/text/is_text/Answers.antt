@@ -1,0 +1,7 @@
+use Rattle.std.proofs.Common.{◌≡◌, ◌∙◌}
+use Rattle.std.specs.Str.{IsValidUpTo, valid_up_to}
+use Rattle.validate.proofs.Characters.{text_test}
+use Rattle.validate.proofs.text.is_text.Goals as goal
+
+pub returns : goal.returns
+returns c = let bytes = c.args.bytes.now in c.is_ok.ensures.value ∙ text_test (λ s. s.now ≡ bytes) (λ e. IsValidUpTo bytes (valid_up_to e)) bytes c.from_utf8.result c.from_utf8.ensures.cases

@@ -1,0 +1,4 @@
+pub mod Json
+pub mod Documents
+pub mod Quoted
+pub mod Marks
