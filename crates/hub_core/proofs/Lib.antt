@@ -1,1 +1,4 @@
 pub mod ConnLaws
+pub mod LapseLaws
+pub mod RoomLaws
+pub mod ShelfLaws

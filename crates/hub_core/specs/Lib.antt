@@ -1,1 +1,4 @@
 pub mod Conns
+pub mod Lapses
+pub mod Shelves
+pub mod Stood

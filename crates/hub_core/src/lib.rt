@@ -2,3 +2,8 @@
 #![tactic(auto)]
 
 mod conns;
+mod lapses;
+mod rooms;
+mod shelf;
+mod stood;
+mod tell;

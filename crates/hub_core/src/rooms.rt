@@ -1,0 +1,138 @@
+//! The rooms of a hub.
+ghost use Rattle.std.specs.Prelude.{◌≡◌, ◌+◌, ◌≤◌, ◌++◌, ◌∷◌, ◌<◌, ◌^◌, [], None, option_copied, option_map, IfOk, OnOk, IfSome, IsSome, IsTrue, false};
+ghost use Rattle.std.specs.List.{find};
+ghost use Rattle.lists.specs.Rising.{find as find_by, remove};
+ghost use Rattle.room_laws.specs.Places.{may_happen};
+ghost use Rattle.hub_core.specs.Stood.{IsStepped, has_id, serial_of};
+
+use crate::stood::Stood;
+use lists::Memory;
+use room_like::RoomLike;
+use room_model::{RoomEvent, RoomOuts, Texts};
+use schema_model::Id;
+use std::alloc::Global;
+use std::collections::BTreeMap;
+use std::marker::Model;
+use std::sync::ledger::Ledger;
+use steps::Steps;
+
+/// Rooms in the order of their creation. One is found by its id and by its number in logarithmic time.
+#[derive(Drop)]
+pub struct Rooms<R> {
+    by_serial: BTreeMap<u64, Stood<R>>,
+    by_id: BTreeMap<[u8; 9], u64>,
+    next: u64,
+}
+
+impl<R> Model for Rooms<R> {
+    ghost use Rattle.std.specs.Prelude.{List};
+    ghost use Rattle.trees.specs.Trees.{entry_values};
+    ghost use Rattle.hub_core.specs.declared.stood.Stood.{Stood};
+    ghost use Rattle.hub_core.specs.Stood.{AreRooms};
+
+    ghost Value = { List (Stood R) };
+
+    ghost view = { λ r. entry_values r.by_serial.entries };
+
+    ghost invariant = { λ r. AreRooms r.by_serial.entries r.by_id.entries r.next };
+}
+
+impl<R> Rooms<R> {
+    /// No rooms. They take no memory.
+    pub fn new(alloc: Global) -> Rooms<R>
+        ensures { result ≡ [] }
+    {
+        Rooms {
+            by_serial: BTreeMap::new(alloc),
+            by_id: BTreeMap::new(alloc),
+            next: 0,
+        }
+    }
+
+    /// The number of the room of an id.
+    pub fn serial_of(&self, id: Id) -> Option<u64>
+        ensures { result ≡ option_map serial_of (find (has_id id) self.now) }
+    {
+        self.by_id.get(&bytes_of(id)).copied()
+    }
+
+    /// The room of a number.
+    pub fn get(&self, serial: u64) -> Option<&Stood<R>>
+        ensures { option_copied result ≡ find_by serial_of serial self.now }
+    {
+        self.by_serial.get(&serial)
+    }
+
+    /// Adds a room behind all others, and gives its number. After 2^64 - 1 rooms there is no number left, which is answered
+    /// as want of memory.
+    pub fn push(&mut self, id: Id, def: u32, criteria: Texts, room: R) -> Result<u64, Memory>
+    where
+        R: Drop,
+        requires new { find (has_id id) self.old ≡ None }
+        ensures { IfOk result (λ serial. self.new ≡ self.old ++ record { serial = serial; id = id; def = def; criteria = criteria; room = room } ∷ []) }
+    {
+        let serial = self.next;
+        let Some(next) = serial.checked_add(1) else {
+            return Err(Memory);
+        };
+        let key = bytes_of(id);
+        self.by_id.insert(key, serial)?;
+        let stood = Stood {
+            serial,
+            id,
+            def,
+            criteria,
+            room,
+        };
+        match self.by_serial.insert(serial, stood) {
+            Ok(_) => {
+                self.next = next;
+                Ok(serial)
+            }
+            Err(_) => {
+                self.by_id.remove(&key);
+                Err(Memory)
+            }
+        }
+    }
+
+    /// Takes the room of a number out.
+    pub fn remove(&mut self, serial: u64)
+    where
+        R: Drop,
+        ensures { self.new ≡ remove serial_of serial self.old }
+    {
+        if let Some(stood) = self.by_serial.remove(&serial) {
+            self.by_id.remove(&bytes_of(stood.id));
+        }
+    }
+}
+
+impl<R: RoomLike> Rooms<R> {
+    /// The step of the room of a number.
+    pub fn step<L: Ledger>(
+        &mut self,
+        serial: u64,
+        event: &RoomEvent,
+        steps: &mut Steps<L>,
+    ) -> Result<RoomOuts, Memory>
+        requires there { IsSome (find_by serial_of serial self.old) }
+        requires happen { IfSome (find_by serial_of serial self.old) (λ s. R.is_spent s.room ≡ false → IsTrue (may_happen (R.room s.room) event.now)) }
+        ensures outs { IfOk result (λ outs. IfSome (find_by serial_of serial self.old) (λ s. outs ≡ (R.happens (R.room s.room) event.now).1)) }
+        ensures after { OnOk result (IfSome (find_by serial_of serial self.old) (λ s. IsStepped R.room R.is_spent s self.old self.new (R.happens (R.room s.room) event.now).0)) }
+        ensures cost { IfSome (find_by serial_of serial self.old) (λ s. steps.new ≤ steps.old + R.costs s.room event.now) }
+    {
+        let Some(stood) = self.by_serial.get_mut(&serial) else {
+            return Err(Memory);
+        };
+        stood.room.step(event, steps)
+    }
+}
+
+// An id as a key.
+fn bytes_of(id: Id) -> [u8; 9]
+    ensures { result ≡ id }
+{
+    let Id(bytes) = id;
+    bytes
+}

@@ -1,0 +1,52 @@
+//! What rooms give, as the hub gives it.
+ghost use Rattle.std.specs.Prelude.{◌≡◌, ◌++◌, IfOk, OnOk};
+ghost use Rattle.std.specs.List.{flat_map};
+ghost use Rattle.std.specs.Option.{option_to_list};
+ghost use Rattle.hub_model.specs.Dealt.{opened_out, refused_opening, in_use_text, told_out};
+
+use crate::conns::Conns;
+use hub_model::{HubOut, HubOuts};
+use lists::{Memory, Text};
+use room_model::{RoomOut, RoomOuts};
+use schema_model::{ConnNum, Id};
+use std::alloc::Global;
+
+/// What a room gives for an event.
+pub fn tell_all(conns: &Conns, room: Id, outs: RoomOuts, told: &mut HubOuts) -> Result<(), Memory>
+    ensures { OnOk result (told.new ≡ told.old ++ flat_map (told_out conns.now room) outs) }
+{
+    for out in outs.into_vec() {
+        if let Some(one) = tell(conns, room, out) {
+            told.push(one)?;
+        }
+    }
+    Ok(())
+}
+
+fn tell(conns: &Conns, room: Id, out: RoomOut) -> Option<HubOut>
+    ensures { option_to_list result ≡ told_out conns.now room out }
+{
+    match out {
+        RoomOut::Send(session, bytes) => match conns.number_of(room, session) {
+            Some(conn) => Some(HubOut::Send(conn, bytes)),
+            None => None,
+        },
+        RoomOut::Close(session, code) => match conns.number_of(room, session) {
+            Some(conn) => Some(HubOut::Close(conn, code)),
+            None => None,
+        },
+        RoomOut::Entered(session) => Some(HubOut::Joined(room, session)),
+        RoomOut::Back(session) => Some(HubOut::Returned(room, session)),
+        RoomOut::NoSeat(_) | RoomOut::TokenInUse(_) => None,
+        RoomOut::Message(session, kind, payload) => Some(HubOut::Message(
+            room, session, kind, payload,
+        )),
+        RoomOut::RawMessage(session, kind, payload) => Some(HubOut::RawMessage(
+            room, session, kind, payload,
+        )),
+        RoomOut::Dropped(session) => Some(HubOut::Dropped(room, session)),
+        RoomOut::Left(session) => Some(HubOut::Left(room, session)),
+        RoomOut::Made(number) => Some(HubOut::Made(room, number)),
+        RoomOut::Refused(refusal) => Some(HubOut::Refused(refusal)),
+    }
+}
