@@ -1,4 +1,5 @@
 pub mod ConnLaws
+pub mod EndLaws
 pub mod LapseLaws
 pub mod RoomLaws
 pub mod ShelfLaws

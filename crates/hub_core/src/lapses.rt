@@ -1,8 +1,8 @@
 //! When something of a room lapses.
-ghost use Rattle.std.specs.Prelude.{◌≡◌, ℕ, not, ◌&&◌, ◌||◌, ◌==◌, [], IfOk, OnOk};
+ghost use Rattle.std.specs.Prelude.{◌≡◌, ℕ, true, not, ◌&&◌, ◌||◌, ◌==◌, [], IfOk, IfSome, OnOk};
 ghost use Rattle.std.specs.List.{list_any};
 ghost use Rattle.lists.specs.Rising.{RisesFrom};
-ghost use Rattle.hub_core.specs.Lapses.{has_lapse, is_past, itself};
+ghost use Rattle.hub_core.specs.Lapses.{has_lapse, is_moment, is_past, itself};
 
 use lists::Memory;
 use std::alloc::Global;
@@ -47,6 +47,42 @@ impl Lapses {
         ensures { (at n : ℕ) → has_lapse self.new at n ≡ (not ((lapse == at) && (serial == n)) && has_lapse self.old at n) }
     {
         self.keys.remove(&(lapse, serial));
+    }
+
+    /// Exchanges the moment of a room for another one; either may be none.
+    pub fn change(
+        &mut self,
+        serial: u64,
+        before: Option<u64>,
+        after: Option<u64>,
+    ) -> Result<(), Memory>
+        requires { IfSome before (λ at. has_lapse self.old at serial ≡ true) }
+        ensures { OnOk result ((at n : ℕ) → has_lapse self.new at n ≡ ((is_moment at after && (serial == n)) || (not (is_moment at before && (serial == n)) && has_lapse self.old at n))) }
+    {
+        if before == after {
+            return Ok(());
+        }
+        self.take_one(serial, before);
+        self.put_one(serial, after)
+    }
+
+    // Takes the moment of a room out, where it has one.
+    fn take_one(&mut self, serial: u64, lapse: Option<u64>)
+        ensures { (at n : ℕ) → has_lapse self.new at n ≡ (not (is_moment at lapse && (serial == n)) && has_lapse self.old at n) }
+    {
+        if let Some(at) = lapse {
+            self.take(at, serial);
+        }
+    }
+
+    // Adds the moment of a room, where it has one.
+    fn put_one(&mut self, serial: u64, lapse: Option<u64>) -> Result<(), Memory>
+        ensures { OnOk result ((at n : ℕ) → has_lapse self.new at n ≡ ((is_moment at lapse && (serial == n)) || has_lapse self.old at n)) }
+    {
+        match lapse {
+            Some(at) => self.put(at, serial),
+            None => Ok(()),
+        }
     }
 
     /// The numbers of the rooms whose moments have come, rising.

@@ -2,6 +2,7 @@
 #![tactic(auto)]
 
 mod conns;
+mod copies;
 mod lapses;
 mod rooms;
 mod shelf;

@@ -2,13 +2,14 @@
 ghost use Rattle.std.specs.Prelude.{◌≡◌, ◌++◌, IfOk, OnOk};
 ghost use Rattle.std.specs.List.{flat_map};
 ghost use Rattle.std.specs.Option.{option_to_list};
-ghost use Rattle.hub_model.specs.Dealt.{opened_out, refused_opening, in_use_text, told_out};
+ghost use Rattle.hub_model.specs.Dealt.{told_out};
+ghost use Rattle.hub_core.specs.Endings.{ended_by, without_all};
 
 use crate::conns::Conns;
 use hub_model::{HubOut, HubOuts};
-use lists::{Memory, Text};
+use lists::Memory;
 use room_model::{RoomOut, RoomOuts};
-use schema_model::{ConnNum, Id};
+use schema_model::Id;
 use std::alloc::Global;
 
 /// What a room gives for an event.
@@ -48,5 +49,47 @@ fn tell(conns: &Conns, room: Id, out: RoomOut) -> Option<HubOut>
         RoomOut::Left(session) => Some(HubOut::Left(room, session)),
         RoomOut::Made(number) => Some(HubOut::Made(room, number)),
         RoomOut::Refused(refusal) => Some(HubOut::Refused(refusal)),
+    }
+}
+
+/// The sessions whose connections a room's outputs end, in their order.
+pub fn ended(alloc: Global, outs: &[RoomOut]) -> Result<Vec<Id>, Memory>
+    ensures { IfOk result (λ ids. ids.items ≡ flat_map ended_by outs.now) }
+{
+    let mut ids = Vec::new(alloc);
+    for out in outs {
+        if let Some(session) = ended_by(out) {
+            ids.push(session)?;
+        }
+    }
+    Ok(ids)
+}
+
+// The session whose connection an output ends.
+fn ended_by(out: &RoomOut) -> Option<Id>
+    ensures { option_to_list result ≡ ended_by out.now }
+{
+    match out {
+        RoomOut::Close(session, _) | RoomOut::Dropped(session) | RoomOut::Left(session) => {
+            Some(*session)
+        }
+        RoomOut::Send(_, _)
+        | RoomOut::Entered(_)
+        | RoomOut::Back(_)
+        | RoomOut::NoSeat(_)
+        | RoomOut::TokenInUse(_)
+        | RoomOut::Message(_, _, _)
+        | RoomOut::RawMessage(_, _, _)
+        | RoomOut::Made(_)
+        | RoomOut::Refused(_) => None,
+    }
+}
+
+/// Takes out the connections of sessions of a room.
+pub fn end_all(conns: &mut Conns, room: Id, sessions: &[Id])
+    ensures { conns.new ≡ without_all room sessions.now conns.old }
+{
+    for session in sessions {
+        conns.end(room, *session);
     }
 }
