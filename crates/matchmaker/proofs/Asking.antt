@@ -1,6 +1,7 @@
 -- What is given where a target asks for something.
-use Rattle.std.proofs.Common.{◌≡◌, ◌==◌, ◌&&◌, ◌||◌, ℕ, true, false, Bool, List, Option, Some, None, Result, Ok, Err, option_and_then, length, refl, ap}
-use Rattle.std.specs.Prelude.{is_some, if◌then◌else◌}
+use Rattle.std.proofs.Common.{◌≡◌, ◌==◌, ◌&&◌, ◌||◌, ℕ, true, false, Bool, List, Option, Some, None, Result, Ok, Err, option_and_then, length, refl, ap, inl, inr, ◌⊎◌, nat_lt, arith}
+use Rattle.std.specs.Prelude.{is_some, if◌then◌else◌, IsOk, IsTrue}
+use Rattle.std.proofs.lemmas.Bool.Decides.{nat_tests}
 use Rattle.std.specs.Str.{is_utf8}
 use Rattle.json.specs.Json.{Json, if_last, value}
 use Rattle.json.specs.Lex.{tokens}
@@ -12,23 +13,35 @@ use Rattle.hub_model.specs.declared.request.Request.{Request}
 use Rattle.hub_model.specs.Requests.{Asked, Said, asked_of, read_request, with_body}
 use Rattle.validate.specs.Json.{is_json}
 use Rattle.matchmaker.specs.Bodies.{can_be_read, said_by, said_of_data}
-use Rattle.matchmaker.specs.Gives.{GivesAsked, GivesRequest, LacksBody}
+use Rattle.matchmaker.specs.Gives.{GivesAsked, GivesRequest, LacksBody, has_escape, takes_memory}
+
+or_last : (a b : Bool) → b ≡ true → (a || b) ≡ true
+or_last true b h = refl
+or_last false b h = h
 
 -- where its body isn't given
-pub lacks : (defs : List RoomDef) (asked : Asked) (body : List ℕ) (f : AskFault) → LacksBody body f → GivesAsked (Err f) (with_body defs asked (said_by body))
-lacks defs asked body NoMethod h = elim h [ ]
-lacks defs asked body BadPayload h = rw h refl
-lacks defs asked body NoHandler h = elim h [ ]
-lacks defs asked body Memory h = tt
+pub lacks : (defs : List RoomDef) (asked : Asked) (raw body : List ℕ) (f : AskFault) → LacksBody body f → GivesAsked raw body (Err f) (with_body defs asked (said_by body))
+lacks defs asked raw body NoMethod h = elim h [ ]
+lacks defs asked raw body BadPayload h = rw h refl
+lacks defs asked raw body NoHandler h = elim h [ ]
+lacks defs asked raw body Memory h = let long : nat_lt 0 (length body) ≡ true = grind (arith, nat_tests) in inr (or_last (has_escape raw) (nat_lt 0 (length body)) long)
+
+-- an escape of the name is one of the target
+or_more : (a b c : Bool) → (a ≡ true → b ≡ true) → (a || c) ≡ true → (b || c) ≡ true
+or_more true b c f h = rw (f refl) refl
+or_more false b c f h = or_last b c h
 
 -- and the body can be read
-pub given : (defs : List RoomDef) (target body : List ℕ) (asked : Asked) (r : Result Request AskFault) → Some asked ≡ asked_of target → can_be_read body ≡ true
-    → GivesAsked r (with_body defs asked (said_by body)) → GivesRequest target body r (read_request defs target (said_by body))
-given defs target body asked (Ok q) is reads h = rw (← is) h
-given defs target body asked (Err NoMethod) is reads h = rw (← is) h
-given defs target body asked (Err BadPayload) is reads h = rw (← is) h
-given defs target body asked (Err NoHandler) is reads h = rw (← is) h
-given defs target body asked (Err Memory) is reads h = rw (← is, reads) refl
+pub given : (defs : List RoomDef) (target raw body : List ℕ) (asked : Asked) (r : Result Request AskFault) → Some asked ≡ asked_of target → can_be_read body ≡ true → (has_escape raw ≡ true → has_escape target ≡ true)
+    → GivesAsked raw body r (with_body defs asked (said_by body)) → GivesRequest target body r (read_request defs target (said_by body))
+given defs target raw body asked (Ok q) is reads escape h = rw (← is) h
+given defs target raw body asked (Err NoMethod) is reads escape h = rw (← is) h
+given defs target raw body asked (Err BadPayload) is reads escape h = rw (← is) h
+given defs target raw body asked (Err NoHandler) is reads escape h = rw (← is) h
+given defs target raw body asked (Err Memory) is reads escape h =
+    let both : (is_some (asked_of target) && can_be_read body) ≡ true = rw (← is, reads) refl in
+    let taken : IsOk (read_request defs target (said_by body)) ⊎ IsTrue (takes_memory target body) = rw (← is) (elim h [ inl ok ↦ inl ok | inr takes ↦ inr (or_more (has_escape raw) (has_escape target) (nat_lt 0 (length body)) escape takes) ]) in
+    (both, taken)
 
 -- what can't be read says nothing
 unread_text : (text : Bool) (j : Option Json) → (text && is_some j) ≡ false → (if text then option_and_then said_of_data (option_and_then of_json j) else None) ≡ None

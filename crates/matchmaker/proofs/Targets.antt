@@ -1,7 +1,8 @@
 -- Targets of requests.
-use Rattle.std.proofs.Common.{◌≡◌, ℕ, ◌==◌, ◌++◌, List, [], ◌∷◌, Option, Some, None, option_and_then, refl, inl, inr, sym}
+use Rattle.std.proofs.Common.{◌≡◌, ℕ, ◌==◌, ◌++◌, ◌||◌, true, Bool, false, true≢false, List, [], ◌∷◌, Option, Some, None, option_and_then, refl, inl, inr, sym}
 use Rattle.std.proofs.lemmas.Bool.{cases_Bool}
-use Rattle.hub_model.specs.Requests.{behind_front}
+use Rattle.hub_model.specs.Requests.{behind_front, up_to}
+use Rattle.matchmaker.specs.Gives.{has_escape}
 
 -- a front of two parts
 pub behind_parts : (a b t : List ℕ) → behind_front (a ++ b) t ≡ option_and_then (behind_front b) (behind_front a t)
@@ -14,3 +15,33 @@ behind_some a b t u rest r same first behind_is = let found : behind_front a t �
 
 pub behind_nothing : (a b t u : List ℕ) → u ≡ t → None ≡ behind_front a u → None ≡ behind_front (a ++ b) t
 behind_nothing a b t u same first = let found : behind_front a t ≡ None = rw (← same) (sym first) in rw (behind_parts a b t, found) refl
+
+-- ---- escapes
+
+escape_or : (a b : Bool) → b ≡ true → (a || b) ≡ true
+escape_or true b h = refl
+escape_or false b h = h
+
+escape_both : (a b c : Bool) → (b ≡ true → c ≡ true) → (a || b) ≡ true → (a || c) ≡ true
+escape_both true b c f h = refl
+escape_both false b c f h = f h
+
+-- an escape up to a byte is one of the whole
+escape_up_to : (b : ℕ) (t : List ℕ) → has_escape (up_to b t) ≡ true → has_escape t ≡ true
+escape_up_to b [] h = h
+escape_up_to b (x ∷ xs) h = elim (cases_Bool (x == b)) [
+  | inl same ↦ (let k = rw same at h in absurd (true≢false (sym k)))
+  | inr other ↦ escape_both (x == 37) _ _ (escape_up_to b xs) (rw other at h)
+]
+
+-- and one behind a front
+escape_front : (front t r : List ℕ) → behind_front front t ≡ Some r → has_escape r ≡ true → has_escape t ≡ true
+escape_front [] t r h e = let is : t ≡ r = cc in rw is e
+escape_front (x ∷ xs) [] r h e = absurd cc
+escape_front (x ∷ xs) (y ∷ ys) r h e = elim (cases_Bool (x == y)) [
+  | inl same ↦ escape_or (y == 37) _ (escape_front xs ys r (rw same at h) e)
+  | inr other ↦ (let k = rw other at h in absurd cc)
+]
+
+pub escape_behind : (front t r : List ℕ) → behind_front front (up_to 63 t) ≡ Some r → has_escape r ≡ true → has_escape t ≡ true
+escape_behind front t r h e = escape_up_to 63 t (escape_front front (up_to 63 t) r h e)

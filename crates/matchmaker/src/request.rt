@@ -46,7 +46,7 @@ fn asked_for(
     body: &[u8],
 ) -> Result<Request, AskFault>
     requires { is_utf8 (percent_decode raw.now) ≡ true }
-    ensures { GivesAsked result (with_body defs.now (method, percent_decode raw.now) (said_by body.now)) }
+    ensures { GivesAsked raw.now body.now result (with_body defs.now (method, percent_decode raw.now) (said_by body.now)) }
 {
     match name_from(alloc, raw) {
         Ok(name) => {

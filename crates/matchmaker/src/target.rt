@@ -1,14 +1,15 @@
 //! What the target of a request asks for.
-ghost use Rattle.std.specs.Prelude.{◌≡◌, ◌++◌, codes, true, option_map, IfOk, IfSome};
+ghost use Rattle.std.specs.Prelude.{◌≡◌, ◌++◌, codes, true, option_map, IfOk, IfSome, OnErr};
 ghost use Rattle.std.specs.Cow.{cow_str_bytes};
 ghost use Rattle.std.specs.Str.{is_utf8};
 ghost use Rattle.percent_encoding.specs.Percent.{percent_decode};
 ghost use Rattle.hub_model.specs.Requests.{asked_of, behind_front, first_asked, method_word, name_of, named_by, up_to};
+ghost use Rattle.matchmaker.specs.Gives.{has_escape};
 
 use crate::text::{behind_front, up_to};
 use hub_model::Method;
 use lists::Memory;
-use percent_encoding::percent_decode;
+use percent_encoding::{DecodeError, percent_decode};
 use std::alloc::Global;
 use std::borrow::CowStr;
 use validate::is_escaped_text;
@@ -27,6 +28,7 @@ const METHODS: [Method; 5] = [
 pub fn asked_of(target: &str) -> Option<(Method, &[u8])>
     ensures value { option_map (λ a. (a.0, percent_decode a.1.now)) result ≡ asked_of target.now }
     ensures text { IfSome result (λ a. is_utf8 (percent_decode a.1.now) ≡ true) }
+    ensures escape { IfSome result (λ a. has_escape a.1.now ≡ true → has_escape target.now ≡ true) }
 {
     first_asked(&METHODS, target.as_bytes())
 }
@@ -35,6 +37,7 @@ pub fn asked_of(target: &str) -> Option<(Method, &[u8])>
 fn first_asked<'a>(methods: &[Method], target: &'a [u8]) -> Option<(Method, &'a [u8])>
     ensures value { option_map (λ a. (a.0, percent_decode a.1.now)) result ≡ first_asked methods.now target.now }
     ensures text { IfSome result (λ a. is_utf8 (percent_decode a.1.now) ≡ true) }
+    ensures escape { IfSome result (λ a. has_escape a.1.now ≡ true → has_escape target.now ≡ true) }
 {
     let [method, methods @ ..] = methods else {
         return None;
@@ -49,6 +52,7 @@ fn first_asked<'a>(methods: &[Method], target: &'a [u8]) -> Option<(Method, &'a 
 fn named_by(method: Method, target: &[u8]) -> Option<&[u8]>
     ensures value { option_map (λ n. percent_decode n.now) result ≡ named_by method target.now }
     ensures text { IfSome result (λ n. is_utf8 (percent_decode n.now) ≡ true) }
+    ensures escape { IfSome result (λ n. has_escape n.now ≡ true → has_escape target.now ≡ true) }
 {
     match raw_name(method, target) {
         Some(raw) => named(raw),
@@ -60,6 +64,7 @@ fn named_by(method: Method, target: &[u8]) -> Option<&[u8]>
 fn named(raw: &[u8]) -> Option<&[u8]>
     ensures value { option_map (λ n. percent_decode n.now) result ≡ name_of raw.now }
     ensures text { IfSome result (λ n. is_utf8 (percent_decode n.now) ≡ true) }
+    ensures same { IfSome result (λ n. n.now ≡ raw.now) }
 {
     if !raw.is_empty() && !raw.contains(&b'/') && is_escaped_text(raw) {
         Some(raw)
@@ -68,14 +73,16 @@ fn named(raw: &[u8]) -> Option<&[u8]>
     }
 }
 
-/// A name with its escapes read.
+/// A name with its escapes read. Memory is taken only where it has one.
 pub fn name_from(alloc: Global, raw: &[u8]) -> Result<CowStr<'_, Global>, Memory>
     requires { is_utf8 (percent_decode raw.now) ≡ true }
-    ensures { IfOk result (λ name. cow_str_bytes name ≡ percent_decode raw.now) }
+    ensures value { IfOk result (λ name. cow_str_bytes name ≡ percent_decode raw.now) }
+    ensures memory { OnErr result (has_escape raw.now ≡ true) }
 {
     match percent_decode(raw).decode_utf8(alloc) {
         Ok(name) => Ok(name),
-        Err(_) => Err(Memory),
+        Err(DecodeError::OutOfMemory) => Err(Memory),
+        Err(DecodeError::Utf8(_)) => unreachable!(),
     }
 }
 
