@@ -90,7 +90,7 @@ impl RoomLike for Room {
     ghost use Rattle.room_model.specs.Room.{room_step};
     ghost use Rattle.room_core.specs.Costs.{step_cost};
     ghost use Rattle.room_laws.specs.Ordered.{Ordered};
-    ghost use Rattle.room_laws.proofs.Ordering.{new_ordered, step_ordered, step_tells, place_taken, places_within};
+    ghost use Rattle.room_laws.proofs.Ordering.{new_ordered, step_ordered, step_tells, place_taken, step_names, kept_named, places_within};
 
     ghost room = { λ h. h.room };
 
@@ -109,6 +109,10 @@ impl RoomLike for Room {
     ghost tells = { step_tells };
 
     ghost seats = { place_taken };
+
+    ghost names = { step_names };
+
+    ghost keepers = { kept_named };
 
     ghost within = { places_within };
 

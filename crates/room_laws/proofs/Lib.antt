@@ -8,4 +8,5 @@ pub mod PlacedSteps
 pub mod RoomPlaced
 pub mod StepFacts
 pub mod RoomObeys
+pub mod SessionNames
 pub mod Ordering

@@ -7,9 +7,11 @@ use Rattle.room_model.specs.Seats.{in_use}
 use Rattle.room_model.specs.Room.{RoomValue, new_room, room_step}
 use Rattle.room_laws.specs.Places.{may_happen}
 use Rattle.room_laws.specs.StepLaws.{StepLaws, connected}
+use Rattle.room_laws.specs.Names.{KeepsNames, AreKeptNamed}
 use Rattle.room_laws.proofs.RoomPlaced.{new_placed, step_placed}
 use Rattle.room_laws.proofs.RoomPlaces.{step_keeps}
 use Rattle.room_laws.proofs.RoomObeys as obeys
+use Rattle.room_laws.proofs.SessionNames as session_names
 use Rattle.room_laws.specs.Ordered.{Ordered}
 
 pub new_ordered : (schema : Schema) (def : RoomDef) (criteria : List (List ℕ)) → Ordered (new_room schema def criteria)
@@ -26,3 +28,9 @@ place_taken r id o is = obeys.place_taken r id o.placed is
 
 pub places_within : (r : RoomValue) → Ordered r → in_use r.seats ≤ r.seats.max
 places_within r o = o.within
+
+pub step_names : (r : RoomValue) (e : RoomEvent) → Ordered r → may_happen r e ≡ true → KeepsNames r e (room_step r e).0
+step_names r e o may = session_names.step_names r e
+
+pub kept_named : (r : RoomValue) → Ordered r → AreKeptNamed r
+kept_named r o = session_names.kept_named r o.placed

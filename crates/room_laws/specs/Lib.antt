@@ -3,3 +3,4 @@ pub mod Places
 pub mod Placed
 pub mod StepLaws
 pub mod Ordered
+pub mod Names

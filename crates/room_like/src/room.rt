@@ -25,6 +25,7 @@ pub trait RoomLike: Sized + Drop {
     ghost use Rattle.room_model.specs.Seats.{in_use};
     ghost use Rattle.room_laws.specs.Places.{may_happen};
     ghost use Rattle.room_laws.specs.StepLaws.{StepLaws, connected};
+    ghost use Rattle.room_laws.specs.Names.{AreKeptNamed, KeepsNames};
 
     /// What it is.
     ghost room: { Self → RoomValue };
@@ -103,6 +104,12 @@ pub trait RoomLike: Sized + Drop {
 
     /// While a session is connected a place is in use.
     ghost seats: { (r : RoomValue) (id : List ℕ) → Holds r → connected r id ≡ true → 1 ≤ in_use r.seats };
+
+    /// A step leaves no session but those that the room had and the one that the event reserves.
+    ghost names: { (r : RoomValue) (e : RoomEvent) → Holds r → may_happen r e ≡ true → KeepsNames r e (happens r e).0 };
+
+    /// A kept seat is that of a session of the room.
+    ghost keepers: { (r : RoomValue) → Holds r → AreKeptNamed r };
 
     /// No more places are in use than there are.
     ghost within: { (r : RoomValue) → Holds r → in_use r.seats ≤ r.seats.max };
