@@ -4,7 +4,7 @@ use Rattle.std.specs.List.{find}
 use Rattle.std.specs.Option.{option_map}
 use Rattle.std.specs.BTreeMap.{is_at}
 use Rattle.std.specs.Map.{lookup, set_value}
-use Rattle.std.specs.Prelude.{Result, Ok, Err, OnOk}
+use Rattle.std.specs.Prelude.{Result, Ok, Err, OnOk, is_ok, if◌then◌else◌}
 use Rattle.std.specs.Ordering.{nat_cmp}
 use Rattle.std.specs.Cmp.Lexicographic.{slice_cmp}
 use Rattle.std.specs.Str.{bytes_eq}
@@ -137,3 +137,16 @@ find_high key high k x (y ∷ xs) below found = grind (arith, nat_tests, below.0
 pub both_ok : {A E : Type 0} (P Q S : Type 0) (r : Result A E) → (P → Q → S) → OnOk r P → OnOk r Q → OnOk r S
 both_ok P Q S (Ok a) f p q = f p q
 both_ok P Q S (Err e) f p q = tt
+
+pub one_ok : {A E : Type 0} (P Q : Type 0) (r : Result A E) → (P → Q) → OnOk r P → OnOk r Q
+one_ok P Q (Ok a) f p = f p
+one_ok P Q (Err e) f p = tt
+
+pub ok_always : {A E : Type 0} (P : Type 0) (r : Result A E) → P → OnOk r P
+ok_always P (Ok a) p = p
+ok_always P (Err e) p = tt
+
+-- a list that has something more where it is Ok
+pub pushed_ok : {A E X : Type 0} (r : Result A E) (new old more : List X) → new ≡ (if is_ok r then old ++ more else old) → OnOk r (new ≡ old ++ more)
+pushed_ok (Ok a) new old more h = h
+pushed_ok (Err e) new old more h = tt

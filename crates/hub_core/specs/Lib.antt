@@ -1,5 +1,14 @@
 pub mod Conns
 pub mod Endings
+pub mod Lapsed
 pub mod Lapses
+pub mod Hubs
+pub mod Lawful
+pub mod Noted
+pub mod Played
+pub mod Registered
+pub mod Shelved
 pub mod Shelves
 pub mod Stood
+pub mod Takes
+pub mod Turned

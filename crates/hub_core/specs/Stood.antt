@@ -1,5 +1,5 @@
 -- The rooms that a hub keeps, in the order of their creation.
-use Rattle.std.specs.Prelude.{◌≡◌, ℕ, Bool, false, List, [], ◌∷◌, None, map}
+use Rattle.std.specs.Prelude.{◌≡◌, ℕ, Bool, false, List, [], ◌∷◌, None, map, IfSome}
 use Rattle.std.specs.List.{find}
 use Rattle.std.specs.Option.{option_map}
 use Rattle.std.specs.BTreeMap.{is_at}
@@ -7,7 +7,7 @@ use Rattle.std.specs.Map.{lookup}
 use Rattle.std.specs.Ordering.{nat_cmp}
 use Rattle.std.specs.Cmp.Lexicographic.{slice_cmp}
 use Rattle.std.specs.Str.{bytes_eq}
-use Rattle.lists.specs.Rising.{IsAbove, RisesFrom, put}
+use Rattle.lists.specs.Rising.{IsAbove, RisesFrom, find as find_by, put}
 use Rattle.trees.specs.Trees.{entry_values, IsKeyed}
 use Rattle.room_model.specs.Room.{RoomValue}
 use Rattle.hub_model.specs.HubValues.{HubRoom}
@@ -36,6 +36,14 @@ AreIds ss ids = (id : List ℕ) → lookup (is_at (slice_cmp nat_cmp id)) ids �
 abbrev pub AreAlone : {R : Type 0} → List (Stood R) → Type 0
 AreAlone [] = Unit {0}
 AreAlone (s ∷ ss) = (find (has_id s.id) ss ≡ None) × AreAlone ss
+
+-- holds of each room
+abbrev pub Each : {R : Type 0} → (Stood R → Type 0) → List (Stood R) → Type 0
+Each P ss = (n : ℕ) → IfSome (find_by serial_of n ss) P
+
+-- rooms that rise by their numbers and have different ids
+abbrev pub AreOrdered : {R : Type 0} → List (Stood R) → Type 0
+AreOrdered ss = RisesFrom serial_of 0 ss × AreAlone ss
 
 -- rooms under their numbers, below the next one
 pub record AreRooms {R : Type 0} (entries : List (ℕ × Stood R)) (ids : List (List ℕ × ℕ)) (next : ℕ) : Type 0 where

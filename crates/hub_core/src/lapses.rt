@@ -66,8 +66,8 @@ impl Lapses {
         self.put_one(serial, after)
     }
 
-    // Takes the moment of a room out, where it has one.
-    fn take_one(&mut self, serial: u64, lapse: Option<u64>)
+    /// Takes the moment of a room out, where it has one.
+    pub fn take_one(&mut self, serial: u64, lapse: Option<u64>)
         ensures { (at n : ℕ) → has_lapse self.new at n ≡ (not (is_moment at lapse && (serial == n)) && has_lapse self.old at n) }
     {
         if let Some(at) = lapse {

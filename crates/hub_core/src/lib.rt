@@ -3,7 +3,13 @@
 
 mod conns;
 mod copies;
+mod events;
 mod lapses;
+mod moments;
+mod openings;
+mod parts;
+mod refuse;
+mod registry;
 mod rooms;
 mod shelf;
 mod stood;

@@ -3,7 +3,7 @@ ghost use Rattle.std.specs.Prelude.{◌≡◌, ◌+◌, ◌≤◌, ◌++◌, ◌
 ghost use Rattle.std.specs.List.{find};
 ghost use Rattle.lists.specs.Rising.{find as find_by, remove};
 ghost use Rattle.room_laws.specs.Places.{may_happen};
-ghost use Rattle.hub_core.specs.Stood.{IsStepped, has_id, serial_of};
+ghost use Rattle.hub_core.specs.Stood.{AreOrdered, IsStepped, has_id, serial_of};
 
 use crate::stood::Stood;
 use lists::Memory;
@@ -49,16 +49,25 @@ impl<R> Rooms<R> {
         }
     }
 
+    /// The rooms rise by their numbers, and their ids differ. It does nothing else than to say so.
+    pub fn know(&self)
+        ensures { AreOrdered self.now }
+    {
+        let _next = self.next;
+    }
+
     /// The number of the room of an id.
     pub fn serial_of(&self, id: Id) -> Option<u64>
-        ensures { result ≡ option_map serial_of (find (has_id id) self.now) }
+        ensures value { result ≡ option_map serial_of (find (has_id id) self.now) }
+        ensures ordered { AreOrdered self.now }
     {
         self.by_id.get(&bytes_of(id)).copied()
     }
 
     /// The room of a number.
     pub fn get(&self, serial: u64) -> Option<&Stood<R>>
-        ensures { option_copied result ≡ find_by serial_of serial self.now }
+        ensures value { option_copied result ≡ find_by serial_of serial self.now }
+        ensures ordered { AreOrdered self.now }
     {
         self.by_serial.get(&serial)
     }

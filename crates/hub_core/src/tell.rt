@@ -1,15 +1,17 @@
 //! What rooms give, as the hub gives it.
-ghost use Rattle.std.specs.Prelude.{◌≡◌, ◌++◌, IfOk, OnOk};
+ghost use Rattle.std.specs.Prelude.{◌≡◌, ◌++◌, IfOk, IsTrue, OnOk};
 ghost use Rattle.std.specs.List.{flat_map};
 ghost use Rattle.std.specs.Option.{option_to_list};
-ghost use Rattle.hub_model.specs.Dealt.{told_out};
+ghost use Rattle.hub_model.specs.Dealt.{opened_out, told_out};
+ghost use Rattle.hub_model.specs.Ids.{is_id};
 ghost use Rattle.hub_core.specs.Endings.{ended_by, without_all};
 
 use crate::conns::Conns;
+use crate::refuse::{in_use_text, refuse_opening};
 use hub_model::{HubOut, HubOuts};
 use lists::Memory;
 use room_model::{RoomOut, RoomOuts};
-use schema_model::Id;
+use schema_model::{ConnNum, Id};
 use std::alloc::Global;
 
 /// What a room gives for an event.
@@ -24,6 +26,52 @@ pub fn tell_all(conns: &Conns, room: Id, outs: RoomOuts, told: &mut HubOuts) -> 
     Ok(())
 }
 
+/// What a room gives for the opening of a connection with a fresh token.
+pub fn tell_opened(
+    alloc: Global,
+    conns: &Conns,
+    room: Id,
+    conn: ConnNum,
+    fresh: Id,
+    outs: RoomOuts,
+    told: &mut HubOuts,
+) -> Result<(), Memory>
+    requires { IsTrue (is_id fresh) }
+    ensures { OnOk result (told.new ≡ told.old ++ flat_map (opened_out conn fresh conns.now room) outs) }
+{
+    for out in outs.into_vec() {
+        tell_answer(alloc, conns, room, conn, fresh, out, told)?;
+    }
+    Ok(())
+}
+
+// An output of it: a refusal of the opening goes to its connection.
+fn tell_answer(
+    alloc: Global,
+    conns: &Conns,
+    room: Id,
+    conn: ConnNum,
+    fresh: Id,
+    out: RoomOut,
+    told: &mut HubOuts,
+) -> Result<(), Memory>
+    requires { IsTrue (is_id fresh) }
+    ensures { OnOk result (told.new ≡ told.old ++ opened_out conn fresh conns.now room out) }
+{
+    match out {
+        RoomOut::NoSeat(_) => refuse_opening(alloc, conn, 4214, "seat expired", told),
+        RoomOut::TokenInUse(_) => {
+            let text = in_use_text(alloc, &fresh)?;
+            refuse_opening(alloc, conn, 4213, text.as_str(), told)
+        }
+        out => match tell(conns, room, out) {
+            Some(one) => told.push(one),
+            None => Ok(()),
+        },
+    }
+}
+
+// An output, where it goes anywhere.
 fn tell(conns: &Conns, room: Id, out: RoomOut) -> Option<HubOut>
     ensures { option_to_list result ≡ told_out conns.now room out }
 {

@@ -1,5 +1,5 @@
 //! Ids as texts.
-ghost use Rattle.std.specs.Prelude.{◌≡◌, Option, Some, None, if◌then◌else◌};
+ghost use Rattle.std.specs.Prelude.{◌≡◌, Option, Some, None, IsTrue, if◌then◌else◌};
 ghost use Rattle.hub_model.specs.Ids.{is_id, is_id_byte};
 
 use schema_model::Id;
@@ -19,6 +19,21 @@ pub fn is_id(id: Id) -> bool
     ensures { result ≡ is_id id }
 {
     is_id_text(&id.0)
+}
+
+/// An id as a text.
+pub fn id_text(id: &Id) -> &str
+    requires { IsTrue (is_id id.now) }
+    ensures { result.now ≡ id.now }
+{
+    text_of(&id.0)
+}
+
+fn text_of(id: &[u8]) -> &str
+    requires { IsTrue (is_id id.now) }
+    ensures { result.now ≡ id.now }
+{
+    std::str::from_utf8(id).unwrap()
 }
 
 // Nine characters of an id.

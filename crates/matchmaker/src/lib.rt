@@ -14,7 +14,7 @@ mod whole;
 
 pub use decision::decide;
 pub use hub_model::{AskFault, Decision, Listing, Method, Opening, Request};
-pub use id::is_id;
+pub use id::{id_text, is_id};
 pub use opening::read_target;
 pub use reply::{refusal_text, reply_text};
 pub use request::read_request;

@@ -5,6 +5,7 @@ ghost use Rattle.std.specs.String.{string_bytes};
 ghost use Rattle.hub_model.specs.Ids.{is_id};
 ghost use Rattle.hub_model.specs.Replies.{json_text, refusal_reply, seat_reply};
 
+use crate::id::id_text;
 use hub_model::Listing;
 use lists::{Memory, Text};
 use schema_model::Id;
@@ -56,25 +57,18 @@ fn place_text(alloc: Global, process: Id, room: Id, session: Id) -> Result<Strin
     ensures { IfOk result (λ t. string_bytes t ≡ codes "\"processId\":" ++ (json_text process ++ (codes ",\"roomId\":" ++ (json_text room
         ++ (codes "},\"sessionId\":" ++ json_text session))))) }
 {
-    let process = id_text(alloc, process)?;
-    let room = id_text(alloc, room)?;
-    let session = id_text(alloc, session)?;
+    let process = quoted_id(alloc, process)?;
+    let room = quoted_id(alloc, room)?;
+    let session = quoted_id(alloc, session)?;
     Ok(format!(in alloc; "\"processId\":{process},\"roomId\":{room}}},\"sessionId\":{session}")?)
 }
 
 // An id in quotes.
-fn id_text(alloc: Global, id: Id) -> Result<String, Memory>
+fn quoted_id(alloc: Global, id: Id) -> Result<String, Memory>
     requires { IsTrue (is_id id) }
     ensures { IfOk result (λ t. string_bytes t ≡ json_text id) }
 {
-    quoted(alloc, text_of(&id.0))
-}
-
-fn text_of(id: &[u8]) -> &str
-    requires { IsTrue (is_id id.now) }
-    ensures { result.now ≡ id.now }
-{
-    std::str::from_utf8(id).unwrap()
+    quoted(alloc, id_text(&id))
 }
 
 // A text in quotes, with its escapes.

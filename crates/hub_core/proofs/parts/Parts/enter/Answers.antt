@@ -1,0 +1,88 @@
+use Rattle.std.proofs.Common.{◌≡◌, ◌∙◌, ◌++◌, List, Some, refl, sym, ap, ap₂}
+use Rattle.std.specs.Prelude.{if◌then◌else◌}
+use Rattle.std.specs.List.{find, flat_map, list_any}
+use Rattle.lists.specs.Rising.{find as find_by, put}
+use Rattle.room_model.specs.declared.event.RoomEvent.TheVariants as event
+use Rattle.room_model.specs.Outs.{is_entry}
+use Rattle.hub_model.specs.declared.conn.HubConn.{HubConn}
+use Rattle.hub_model.specs.Dealt.{opened_out}
+use Rattle.hub_model.specs.HubStep.{entered_conns}
+use Rattle.hub_model.specs.HubValues.{conn_number}
+use Rattle.hub_core.specs.Hubs.{hub_of}
+use Rattle.hub_core.specs.Played.{dealt_to, with_dealt}
+use Rattle.hub_core.specs.Endings.{ended_by, without_all}
+use Rattle.hub_core.specs.Lawful.{Lawful}
+use Rattle.hub_core.specs.Stood.{has_id, serial_of}
+use Rattle.lists.proofs.SameBytes.{same_bytes}
+use Rattle.hub_core.proofs.EachLaws.{of_there}
+use Rattle.hub_core.proofs.EnterLaws as enter
+use Rattle.hub_core.proofs.EnterLaws.{may_enter}
+use Rattle.hub_core.proofs.PlayLaws as play
+use Rattle.hub_core.proofs.PlayLaws.{found_passes, found_serial, some_found}
+use Rattle.hub_core.proofs.RoomLaws.{both_ok, one_ok}
+use Rattle.hub_core.proofs.parts.Parts.enter.Given.{Over}
+use Rattle.hub_core.proofs.parts.Parts.enter.Goals as goal
+
+lawful : (g : Over) → Lawful g.R.RoomLike.Holds g.R.RoomLike.happens
+lawful g = record { goes_on = g.met.R.RoomLike.goes_on; tells = g.met.R.RoomLike.tells; seats = g.met.R.RoomLike.seats; names = g.met.R.RoomLike.names; keepers = g.met.R.RoomLike.keepers }
+
+pub step-requires-clause-there : goal.step-requires-clause-there
+step-requires-clause-there g c = some_found c.args.self.now.registry.rooms c.args.opening.now.room c.in-Some.serial (found_serial c.args.self.now.registry.rooms c.args.opening.now.room c.in-Some.serial c.in-Some.ensures.ordered c.in-Some.ensures.value)
+
+pub connect-requires-clause-session : goal.connect-requires-clause-session
+connect-requires-clause-session g c entry =
+    let old = c.args.self.now in
+    let ordered = c.in-Some.ensures.ordered in
+    let f = found_serial old.registry.rooms c.args.opening.now.room c.in-Some.serial ordered c.in-Some.ensures.value in
+    enter.free_session g.R.RoomLike.room g.R.RoomLike.Holds g.R.RoomLike.happens (lawful g) c.args.opening.now c.args.fresh c.in-Some.serial old c.in_ok-outs.outs c.requires.stands f c.in_ok-outs.ensures.outs (sym (ap (list_any (is_entry c.args.opening.now.session)) c.as_slice.ensures) ∙ entry)
+
+-- the connections with the one that enters, and those that are left of them
+abbrev with_newcomer : (g : Over) (c : goal.Joined-event-17 g) → List HubConn
+with_newcomer g c = if list_any (is_entry c.args.opening.now.session) c.in_ok-outs.outs then put conn_number (record { conn = c.args.conn; room = c.args.opening.now.room; session = c.args.opening.now.session }) c.args.self.now.conns else c.args.self.now.conns
+
+connected : (g : Over) (c : goal.Joined-event-17 g) → c.connect.new.conns ≡ with_newcomer g c
+connected g c = c.in_ok-connect.ensures ∙ ap (λ o. if list_any (is_entry c.args.opening.now.session) o then put conn_number (record { conn = c.args.conn; room = c.args.opening.now.room; session = c.args.opening.now.session }) c.args.self.now.conns else c.args.self.now.conns) c.as_slice.ensures
+
+ended_all : (g : Over) (c : goal.Joined-event-17 g) → c.end_all.new.conns ≡ without_all c.args.opening.now.room (flat_map ended_by c.in_ok-outs.outs) (with_newcomer g c)
+ended_all g c = c.end_all.ensures ∙ ap₂ (λ l cs. without_all c.args.opening.now.room l cs) (c.as_slice-3.ensures.value ∙ c.in_ok-sessions.ensures ∙ ap (flat_map ended_by) c.as_slice-2.ensures) (connected g c)
+
+-- the same by what the room made of the opening
+ended_by_it : (g : Over) (c : goal.Joined-event-17 g) → c.end_all.new.conns ≡ without_all (found_serial c.args.self.now.registry.rooms c.args.opening.now.room c.in-Some.serial c.in-Some.ensures.ordered c.in-Some.ensures.value).it.id (flat_map ended_by (g.R.RoomLike.happens (g.R.RoomLike.room (found_serial c.args.self.now.registry.rooms c.args.opening.now.room c.in-Some.serial c.in-Some.ensures.ordered c.in-Some.ensures.value).it.room) (event.Enter c.args.opening.now.session c.args.opening.now.token c.args.fresh)).1) (with_newcomer g c)
+ended_by_it g c =
+    let old = c.args.self.now in
+    let ordered = c.in-Some.ensures.ordered in
+    let f = found_serial old.registry.rooms c.args.opening.now.room c.in-Some.serial ordered c.in-Some.ensures.value in
+    ended_all g c
+    ∙ ap₂ (λ k o. without_all k (flat_map ended_by o) (with_newcomer g c)) (sym (same_bytes f.it.id c.args.opening.now.room (found_passes f)))
+    (of_there (find_by serial_of c.in-Some.serial old.registry.rooms) f.it (λ s. c.in_ok-outs.outs ≡ (g.R.RoomLike.happens (g.R.RoomLike.room s.room) (event.Enter c.args.opening.now.session c.args.opening.now.token c.args.fresh)).1) f.at c.in_ok-outs.ensures.outs)
+
+pub returns-clause-hub : goal.returns-clause-hub
+returns-clause-hub g c =
+    let old = c.args.self.now in
+    let ordered = c.in-Some.ensures.ordered in
+    let f = found_serial old.registry.rooms c.args.opening.now.room c.in-Some.serial ordered c.in-Some.ensures.value in
+    one_ok _ _ c.dispose.result (λ left.
+    play.hub_left g.R.RoomLike.room g.R.RoomLike.is_spent g.R.RoomLike.Holds g.R.RoomLike.happens (lawful g) c.args.opening.now.room (event.Enter c.args.opening.now.session c.args.opening.now.token c.args.fresh) c.in-Some.serial old c.step.new.self c.dispose.new.self c.in_ok-outs.outs c.requires.stands ordered f (may_enter g.R.RoomLike.room c.args.opening.now.session c.args.opening.now.token c.args.fresh (find (has_id c.args.opening.now.room) old.registry.rooms)) c.in_ok-outs.ensures.outs c.in_ok-outs.ensures.after left (with_newcomer g c) c.end_all.new.conns (ended_all g c)
+    ∙ ap (λ cs. with_dealt (hub_of g.R.RoomLike.room old) cs (dealt_to g.R.RoomLike.happens (hub_of g.R.RoomLike.room old) c.args.fresh c.args.opening.now)) (enter.conns_entered g.R.RoomLike.room g.R.RoomLike.is_spent g.R.RoomLike.Holds g.R.RoomLike.happens (lawful g) c.args.opening.now c.args.fresh c.in-Some.serial old c.step.new.self c.dispose.new.self c.in_ok-outs.outs c.requires.stands ordered f (may_enter g.R.RoomLike.room c.args.opening.now.session c.args.opening.now.token c.args.fresh (find (has_id c.args.opening.now.room) old.registry.rooms)) c.in_ok-outs.ensures.outs c.in_ok-outs.ensures.after left c.args.conn))
+    c.dispose.ensures.rooms
+
+pub returns-clause-told : goal.returns-clause-told
+returns-clause-told g c =
+    let old = c.args.self.now in
+    let ordered = c.in-Some.ensures.ordered in
+    let f = found_serial old.registry.rooms c.args.opening.now.room c.in-Some.serial ordered c.in-Some.ensures.value in
+    both_ok _ _ _ c.dispose.result (λ left told.
+    play.told_all g.R.RoomLike.room g.R.RoomLike.is_spent g.R.RoomLike.Holds g.R.RoomLike.happens (lawful g) c.args.opening.now.room (event.Enter c.args.opening.now.session c.args.opening.now.token c.args.fresh) c.in-Some.serial old c.step.new.self c.dispose.new.self c.in_ok-outs.outs c.requires.stands ordered f (may_enter g.R.RoomLike.room c.args.opening.now.session c.args.opening.now.token c.args.fresh (find (has_id c.args.opening.now.room) old.registry.rooms)) c.in_ok-outs.ensures.outs c.in_ok-outs.ensures.after left (opened_out c.args.conn c.args.fresh (entered_conns old.conns c.args.conn (dealt_to g.R.RoomLike.happens (hub_of g.R.RoomLike.room old) c.args.fresh c.args.opening.now) (Some c.args.opening.now))) c.args.told.now c.tell_opened.new.told c.dispose.new.told
+    (c.in_ok-tell_opened.ensures ∙ ap (λ cs. c.args.told.now ++ flat_map (opened_out c.args.conn c.args.fresh cs c.args.opening.now.room) c.in_ok-outs.outs) (connected g c ∙ enter.conns_entered g.R.RoomLike.room g.R.RoomLike.is_spent g.R.RoomLike.Holds g.R.RoomLike.happens (lawful g) c.args.opening.now c.args.fresh c.in-Some.serial old c.step.new.self c.dispose.new.self c.in_ok-outs.outs c.requires.stands ordered f (may_enter g.R.RoomLike.room c.args.opening.now.session c.args.opening.now.token c.args.fresh (find (has_id c.args.opening.now.room) old.registry.rooms)) c.in_ok-outs.ensures.outs c.in_ok-outs.ensures.after left c.args.conn)) told)
+    c.dispose.ensures.rooms c.dispose.ensures.told
+
+pub returns-clause-stands : goal.returns-clause-stands
+returns-clause-stands g c =
+    let old = c.args.self.now in
+    let ordered = c.in-Some.ensures.ordered in
+    let f = found_serial old.registry.rooms c.args.opening.now.room c.in-Some.serial ordered c.in-Some.ensures.value in
+    let may = may_enter g.R.RoomLike.room c.args.opening.now.session c.args.opening.now.token c.args.fresh (find (has_id c.args.opening.now.room) old.registry.rooms) in
+    both_ok _ _ _ c.dispose.result (λ left kept.
+    enter.entered_stands g.R.RoomLike.room g.R.RoomLike.is_spent g.R.RoomLike.Holds g.R.RoomLike.happens (lawful g) c.args.opening.now c.args.fresh c.in-Some.serial old c.step.new.self c.dispose.new.self c.in_ok-outs.outs c.requires.stands ordered f may c.in_ok-outs.ensures.outs c.in_ok-outs.ensures.after left c.args.conn
+    (record { alloc = old.alloc; moment = old.moment; schema = old.schema; process = old.process; defs = old.defs; registry = c.step.new.self; conns = c.end_all.new.conns }) _ refl (ended_by_it g c) refl refl refl c.in_ok-outs.ensures.kept c.in_ok-outs.ensures.count c.dispose.ensures.ordered kept c.dispose.ensures.count refl refl refl refl refl)
+    c.dispose.ensures.rooms c.dispose.ensures.kept

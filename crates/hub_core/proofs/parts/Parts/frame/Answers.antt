@@ -1,0 +1,27 @@
+use Rattle.std.proofs.Common.{[], ◌∷◌, ◌∙◌, sym, ap}
+use Rattle.room_model.specs.declared.event.RoomEvent.TheVariants as event
+use Rattle.room_model.specs.declared.refusal.Refusal.TheVariants as refusal
+use Rattle.hub_model.specs.declared.event.HubEvent.TheVariants as happened
+use Rattle.hub_model.specs.declared.event.HubOut.TheVariants as out
+use Rattle.hub_core.specs.Hubs.{hub_of}
+use Rattle.hub_core.specs.Played.{played_in}
+use Rattle.hub_core.specs.Takes.{rules_of}
+use Rattle.hub_core.proofs.EventLaws.{no_frame, may_frame, frame_step, room_there, takes_played}
+use Rattle.hub_core.proofs.RoomLaws.{one_ok, pushed_ok}
+use Rattle.hub_core.proofs.parts.Parts.frame.Goals as goal
+
+pub returns-in_default : goal.returns-in_default
+returns-in_default g c =
+    one_ok _ _ c.push.result (λ told. no_frame g.R.RoomLike.room g.R.RoomLike.Holds g.R.RoomLike.happens c.args.self.now c.requires c.know.ensures c.args.conn c.args.bytes.now c.args.told.now c.push.new.self c.in_default.ensures told)
+    (pushed_ok c.push.result c.push.new.self c.args.told.now (out.Refused refusal.NoConn ∷ []) c.push.ensures)
+
+pub play-requires-clause-happen : goal.play-requires-clause-happen
+play-requires-clause-happen g c = may_frame g.R.RoomLike.room g.R.RoomLike.Holds c.args.self.now c.requires c.args.conn c.in-Some.at c.in-Some.ensures c.in_ok-copy_bytes.field-0
+
+pub returns : goal.returns
+returns g c =
+    let old = c.args.self.now in
+    let h = hub_of g.R.RoomLike.room old in
+    let is = frame_step (rules_of g.R.RoomLike.happens) h c.args.conn c.args.bytes.now c.in-Some.at (sym c.in-Some.ensures) (room_there g.R.RoomLike.room g.R.RoomLike.Holds c.args.self.now c.requires c.args.conn c.in-Some.at c.in-Some.ensures) in
+    takes_played g.R.RoomLike.room g.R.RoomLike.Holds g.R.RoomLike.happens (happened.Frame c.args.conn c.args.bytes.now) old c.play.new.self c.args.told.now c.play.new.told c.in-Some.at.room (event.Frame c.in-Some.at.session c.in_ok-copy_bytes.field-0) c.play.result
+    (is ∙ ap (λ b. played_in g.R.RoomLike.happens h c.in-Some.at.room (event.Frame c.in-Some.at.session b)) (sym c.in_ok-copy_bytes.ensures)) c.play.ensures.hub c.play.ensures.told c.play.ensures.stands

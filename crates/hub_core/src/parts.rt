@@ -1,0 +1,89 @@
+//! A hub's parts, and the events of one room.
+ghost use Rattle.std.specs.Prelude.{◌≡◌, ◌++◌, ℕ, true, List, Some, None, IfSome, IsSome, IsTrue, OnOk};
+ghost use Rattle.std.specs.List.{find};
+ghost use Rattle.lists.specs.Rising.{find as find_by};
+ghost use Rattle.room_laws.specs.Names.{reserves};
+ghost use Rattle.room_laws.specs.Places.{may_happen};
+ghost use Rattle.room_laws.specs.StepLaws.{opens};
+ghost use Rattle.hub_model.specs.Ids.{is_id};
+ghost use Rattle.hub_core.specs.Hubs.{InOrder, Stands, hub_of};
+ghost use Rattle.hub_core.specs.Played.{played_in};
+ghost use Rattle.hub_core.specs.Stood.{AreOrdered, has_id, serial_of};
+ghost use Rattle.hub_core.specs.Turned.{Turned};
+
+use crate::conns::Conns;
+use crate::registry::Registry;
+use crate::tell::{end_all, ended, tell_all};
+use hub_model::{HubOut, HubOuts};
+use lists::Memory;
+use room_like::RoomLike;
+use room_model::{Defs, Refusal, RoomEvent, RoomOuts};
+use schema_model::{Id, Schema};
+use std::alloc::Global;
+use std::sync::ledger::Ledger;
+use steps::Steps;
+
+/// The moment, what the hub was made with, its rooms with what is noted of them, and its connections.
+#[derive(Drop)]
+pub struct Parts<R> {
+    pub alloc: Global,
+    pub moment: u64,
+    pub schema: Schema,
+    pub process: Id,
+    pub defs: Defs,
+    pub registry: Registry<R>,
+    pub conns: Conns,
+}
+
+impl<R: RoomLike> Parts<R> {
+    /// An event of the room of an id, which opens and reserves nothing; where there is no such room it is refused.
+    pub fn play<L: Ledger>(
+        &mut self,
+        room: Id,
+        event: &RoomEvent,
+        told: &mut HubOuts,
+        steps: &mut Steps<L>,
+    ) -> Result<(), Memory>
+        requires stands { Stands R.room R.Holds self.old }
+        requires happen { IfSome (find (has_id room) self.old.registry.rooms) (λ s. IsTrue (may_happen (R.room s.room) event.now)) }
+        requires opens { opens event.now ≡ None }
+        requires reserves { reserves event.now ≡ None }
+        ensures hub { OnOk result (hub_of R.room self.new ≡ (played_in R.happens (hub_of R.room self.old) room event.now).0) }
+        ensures told { OnOk result (told.new ≡ told.old ++ (played_in R.happens (hub_of R.room self.old) room event.now).1) }
+        ensures stands { OnOk result (Stands R.room R.Holds self.new) }
+    {
+        let Some(serial) = self.registry.rooms.serial_of(room) else {
+            return told.push(HubOut::Refused(Refusal::NoRoom));
+        };
+        self.happen(serial, event, told, steps)?;
+        self.registry.dispose(serial, told)
+    }
+
+    /// An event of the room of a number, which opens nothing: what the room gives is told, and the connections that it ends
+    /// are gone. The room stays, also where no place of it is in use any more.
+    pub fn happen<L: Ledger>(
+        &mut self,
+        serial: u64,
+        event: &RoomEvent,
+        told: &mut HubOuts,
+        steps: &mut Steps<L>,
+    ) -> Result<(), Memory>
+        requires order { InOrder R.room R.Holds self.old }
+        requires there { IsSome (find_by serial_of serial self.old.registry.rooms) }
+        requires happen { IfSome (find_by serial_of serial self.old.registry.rooms) (λ s. IsTrue (may_happen (R.room s.room) event.now)) }
+        requires names { (id : List ℕ) → reserves event.now ≡ Some id → is_id id ≡ true }
+        ensures ordered { AreOrdered self.old.registry.rooms }
+        ensures turned { OnOk result (IfSome (find_by serial_of serial self.old.registry.rooms) (λ s. Turned R.room R.is_spent R.happens event.now s self.old self.new told.old told.new)) }
+        ensures order { OnOk result (InOrder R.room R.Holds self.new) }
+    {
+        let Some(stood) = self.registry.rooms.get(serial) else {
+            return Ok(());
+        };
+        let room = stood.id;
+        let outs = self.registry.step(serial, event, steps)?;
+        let sessions = ended(self.alloc, outs.as_slice())?;
+        tell_all(&self.conns, room, outs, told)?;
+        end_all(&mut self.conns, room, sessions.as_slice());
+        Ok(())
+    }
+}

@@ -1,0 +1,155 @@
+//! The rooms of a hub, with what is noted of them.
+ghost use Rattle.std.specs.Prelude.{◌≡◌, ◌+◌, ◌≤◌, ◌<◌, ◌++◌, ◌∷◌, [], true, false, if◌then◌else◌, length, IfOk, IfSome, IsSome, IsTrue, OnOk};
+ghost use Rattle.lists.specs.Rising.{find as find_by, remove};
+ghost use Rattle.room_laws.specs.Places.{may_happen};
+ghost use Rattle.hub_model.specs.HubStep.{disposals, is_needed};
+ghost use Rattle.hub_core.specs.Lapses.{has_lapse};
+ghost use Rattle.hub_core.specs.Noted.{IsNextOf, IsRenoted};
+ghost use Rattle.hub_core.specs.Registered.{IsKept};
+ghost use Rattle.hub_core.specs.Shelved.{Hides, Shows};
+ghost use Rattle.hub_core.specs.Stood.{AreOrdered, IsStepped, room_in, serial_of};
+
+use crate::lapses::Lapses;
+use crate::rooms::Rooms;
+use crate::shelf::Shelf;
+use crate::stood::Stood;
+use hub_model::{HubOut, HubOuts};
+use lists::Memory;
+use room_like::RoomLike;
+use room_model::{RoomEvent, RoomOuts};
+use std::sync::ledger::Ledger;
+use steps::Steps;
+
+/// Rooms, when something of each lapses, and the rooms of each definition as requests see them.
+#[derive(Drop)]
+pub struct Registry<R> {
+    pub rooms: Rooms<R>,
+    pub lapses: Lapses,
+    pub shelves: Vec<Shelf>,
+}
+
+impl<R: RoomLike> Registry<R> {
+    /// The step of the room of a number, which is noted.
+    pub fn step<L: Ledger>(
+        &mut self,
+        serial: u64,
+        event: &RoomEvent,
+        steps: &mut Steps<L>,
+    ) -> Result<RoomOuts, Memory>
+        requires kept { IsKept R.room self.old }
+        requires there { IsSome (find_by serial_of serial self.old.rooms) }
+        requires happen { IfSome (find_by serial_of serial self.old.rooms) (λ s. R.is_spent s.room ≡ false → IsTrue (may_happen (R.room s.room) event.now)) }
+        ensures outs { IfOk result (λ outs. IfSome (find_by serial_of serial self.old.rooms) (λ s. outs ≡ (R.happens (R.room s.room) event.now).1)) }
+        ensures after { OnOk result (IfSome (find_by serial_of serial self.old.rooms) (λ s. IsStepped R.room R.is_spent s self.old.rooms self.new.rooms (R.happens (R.room s.room) event.now).0)) }
+        ensures kept { OnOk result (IsKept R.room self.new) }
+        ensures count { OnOk result (length self.new.shelves.items ≡ length self.old.shelves.items) }
+        ensures cost { IfSome (find_by serial_of serial self.old.rooms) (λ s. steps.new ≤ steps.old + R.costs s.room event.now) }
+    {
+        let before = self.next_of(serial);
+        let outs = self.rooms.step(serial, event, steps)?;
+        self.note(serial, before)?;
+        Ok(outs)
+    }
+
+    // Notes how the room of a number stands now, where `before` was its next lapse.
+    fn note(&mut self, serial: u64, before: Option<u64>) -> Result<(), Memory>
+        requires lapse { IfSome before (λ at. has_lapse self.old.lapses at serial ≡ true) }
+        requires def { IfSome (find_by serial_of serial self.old.rooms) (λ t. t.def < length self.old.shelves.items) }
+        ensures rooms { self.new.rooms ≡ self.old.rooms }
+        ensures lapses { OnOk result (IfSome (find_by serial_of serial self.old.rooms) (λ t. IsRenoted (R.room t.room).seats serial before self.old.lapses self.new.lapses)) }
+        ensures shelves { OnOk result (IfSome (find_by serial_of serial self.old.rooms) (λ t. Shows R.room t self.old.shelves.items self.new.shelves.items)) }
+    {
+        match self.rooms.get(serial) {
+            Some(stood) => {
+                note_lapse(serial, &stood.room, before, &mut self.lapses)?;
+                show(stood, &mut self.shelves);
+                Ok(())
+            }
+            None => Ok(()),
+        }
+    }
+
+    /// Takes the room of a number out.
+    pub fn remove(&mut self, serial: u64)
+        requires kept { IsKept R.room self.old }
+        ensures rooms { self.new.rooms ≡ remove serial_of serial self.old.rooms }
+        ensures kept { IsKept R.room self.new }
+        ensures count { length self.new.shelves.items ≡ length self.old.shelves.items }
+    {
+        let before = self.next_of(serial);
+        self.lapses.take_one(serial, before);
+        self.hide(serial);
+        self.rooms.remove(serial);
+    }
+
+    // Takes the room of a number off its shelf.
+    fn hide(&mut self, serial: u64)
+        requires { IfSome (find_by serial_of serial self.old.rooms) (λ s. s.def < length self.old.shelves.items) }
+        ensures ordered { AreOrdered self.old.rooms }
+        ensures rooms { self.new.rooms ≡ self.old.rooms }
+        ensures lapses { self.new.lapses ≡ self.old.lapses }
+        ensures shelves { Hides serial (find_by serial_of serial self.old.rooms) self.old.shelves.items self.new.shelves.items }
+    {
+        match self.rooms.get(serial) {
+            Some(stood) => self.shelves[stood.def as usize].remove(serial),
+            None => {}
+        }
+    }
+
+    /// Takes the room of a number out where no place of it is in use, and tells so.
+    pub fn dispose(&mut self, serial: u64, told: &mut HubOuts) -> Result<(), Memory>
+        requires kept { IsKept R.room self.old }
+        ensures ordered { AreOrdered self.old.rooms }
+        ensures rooms { OnOk result (IfSome (find_by serial_of serial self.old.rooms) (λ t. self.new.rooms ≡ (if is_needed (room_in R.room t) then self.old.rooms else remove serial_of serial self.old.rooms))) }
+        ensures told { OnOk result (IfSome (find_by serial_of serial self.old.rooms) (λ t. told.new ≡ told.old ++ disposals (room_in R.room t ∷ []))) }
+        ensures kept { OnOk result (IsKept R.room self.new) }
+        ensures count { length self.new.shelves.items ≡ length self.old.shelves.items }
+    {
+        match self.rooms.get(serial) {
+            Some(stood) => {
+                if stood.room.in_use() > 0 {
+                    return Ok(());
+                }
+                told.push(HubOut::Disposed(stood.id))?;
+                self.remove(serial);
+                Ok(())
+            }
+            None => Ok(()),
+        }
+    }
+
+    // The next lapse of the room of a number.
+    fn next_of(&self, serial: u64) -> Option<u64>
+        ensures value { IsNextOf R.room (find_by serial_of serial self.now.rooms) result }
+        ensures ordered { AreOrdered self.now.rooms }
+    {
+        match self.rooms.get(serial) {
+            Some(stood) => stood.room.next_lapse(),
+            None => None,
+        }
+    }
+}
+
+// Notes when something of the room of a number lapses now, where `before` was its next lapse.
+fn note_lapse<R: RoomLike>(
+    serial: u64,
+    room: &R,
+    before: Option<u64>,
+    lapses: &mut Lapses,
+) -> Result<(), Memory>
+    requires { IfSome before (λ at. has_lapse lapses.old at serial ≡ true) }
+    ensures { OnOk result (IsRenoted (R.room room.now).seats serial before lapses.old lapses.new) }
+{
+    lapses.change(serial, before, room.next_lapse())
+}
+
+// Notes how a room is shown to requests now.
+fn show<R: RoomLike>(stood: &Stood<R>, shelves: &mut Vec<Shelf>)
+    requires { stood.now.def < length shelves.old.items }
+    ensures { Shows R.room stood.now shelves.old.items shelves.new.items }
+{
+    let locked = stood.room.locked();
+    let in_use = stood.room.in_use();
+    let max = stood.room.max();
+    shelves[stood.def as usize].renew(stood.serial, locked, in_use, max);
+}
