@@ -21,7 +21,7 @@ there (Some x) P some h = record { it = x; is = refl; holds = h }
 pub of_there : {X : Type 0} (o : Option X) (x : X) (P : X → Type 0) → o ≡ Some x → IfSome o P → P x
 of_there o x P is h = subst (λ q. IfSome q P) is h
 
-either : {X : Type 0} (P : X → Type 0) (b : Bool) (o p : Option X) → IfSome o P → IfSome p P → IfSome (cond b o p) P
+pub either : {X : Type 0} (P : X → Type 0) (b : Bool) (o p : Option X) → IfSome o P → IfSome p P → IfSome (cond b o p) P
 either P true o p h k = h
 either P false o p h k = k
 

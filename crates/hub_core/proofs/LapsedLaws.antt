@@ -196,7 +196,7 @@ given_still f g same [] = refl
 given_still f g same (o ∷ outs) = ap₂ (λ a b. a ++ b) (same o) (given_still f g same outs)
 
 -- rooms of other numbers have other ids
-abbrev Apart : {R : Type 0} → ℕ → List ℕ → List (Stood R) → Type 0
+abbrev pub Apart : {R : Type 0} → ℕ → List ℕ → List (Stood R) → Type 0
 Apart n id [] = Unit {0}
 Apart n id (x ∷ ss) = ((x.serial == n) ≡ false → bytes_eq x.id id ≡ false) × Apart n id ss
 
@@ -208,7 +208,7 @@ none_apart {R = R} n id (x ∷ ss) none = by_first (bytes_eq x.id id) refl none 
     by_first true here is rest = absurd cc
     by_first false other is rest = (λ apart. other, rest is)
 
-are_apart : {R : Type 0} (n : ℕ) (s : Stood R) (ss : List (Stood R)) → AreAlone ss → find_by serial_of n ss ≡ Some s → find (has_id s.id) ss ≡ Some s → Apart n s.id ss
+pub are_apart : {R : Type 0} (n : ℕ) (s : Stood R) (ss : List (Stood R)) → AreAlone ss → find_by serial_of n ss ≡ Some s → find (has_id s.id) ss ≡ Some s → Apart n s.id ss
 are_apart n s [] alone found own = absurd cc
 are_apart {R = R} n s (x ∷ ss) alone found own = by_number (x.serial == n) refl found own (λ rest own. are_apart n s ss alone.1 rest own)
   where

@@ -1,3 +1,5 @@
+pub mod AddedLaws
+pub mod AskLaws
 pub mod ConnLaws
 pub mod DealtLaws
 pub mod EachLaws
@@ -7,6 +9,7 @@ pub mod EventLaws
 pub mod IdleLaws
 pub mod LapseLaws
 pub mod LapsedLaws
+pub mod LedLaws
 pub mod LeftLaws
 pub mod MomentLaws
 pub mod NotedLaws
@@ -16,6 +19,7 @@ pub mod PlayedLaws
 pub mod Refusals
 pub mod RegisteredLaws
 pub mod RoomLaws
+pub mod SeatLaws
 pub mod ShelfLaws
 pub mod ShelvedLaws
 pub mod StandsLaws

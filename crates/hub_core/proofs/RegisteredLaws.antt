@@ -52,7 +52,7 @@ shelf_other room d low s t (x ∷ ss) rises found same other = by_first (x.seria
         in_front false h = h
 
 -- one of the shelves is another one
-set_at : {X : Type 0} (xs : List X) (i d : ℕ) (x y : X) → slice_get (set xs i x) d ≡ Some y → (b : Bool) → (i == d) ≡ b → cond b (y ≡ x) (slice_get xs d ≡ Some y)
+pub set_at : {X : Type 0} (xs : List X) (i d : ℕ) (x y : X) → slice_get (set xs i x) d ≡ Some y → (b : Bool) → (i == d) ≡ b → cond b (y ≡ x) (slice_get xs d ≡ Some y)
 set_at [] zero d x y got true is = absurd cc
 set_at [] zero d x y got false is = got
 set_at [] (suc i) d x y got true is = absurd cc
@@ -68,7 +68,7 @@ set_at (z ∷ xs) (suc i) (suc d) x y got b is = set_at xs i d x y got b (same_t
     same_test : (i d : ℕ) → (i == d) ≡ (suc i == suc d)
     same_test i d = grind (arith, nat_tests)
 
-length_set : {X : Type 0} (xs : List X) (i : ℕ) (x : X) → length (set xs i x) ≡ length xs
+pub length_set : {X : Type 0} (xs : List X) (i : ℕ) (x : X) → length (set xs i x) ≡ length xs
 length_set [] zero x = refl
 length_set [] (suc i) x = refl
 length_set (z ∷ xs) zero x = refl
@@ -88,7 +88,7 @@ AreShelved-put room s t ss olds old rises found same at h d shelf got = by_def (
 
 -- ---- all of it
 
-shelf_there : (olds : List (List Shown)) (d : ℕ) → d < length olds → (old : List Shown) × (slice_get olds d ≡ Some old)
+pub shelf_there : (olds : List (List Shown)) (d : ℕ) → d < length olds → (old : List Shown) × (slice_get olds d ≡ Some old)
 shelf_there [] d less = absurd (grind (arith, less))
 shelf_there (x ∷ xs) zero less = (x, refl)
 shelf_there (x ∷ xs) (suc d) less = shelf_there xs d (grind (arith, less))

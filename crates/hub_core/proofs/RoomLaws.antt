@@ -138,6 +138,10 @@ pub both_ok : {A E : Type 0} (P Q S : Type 0) (r : Result A E) → (P → Q → 
 both_ok P Q S (Ok a) f p q = f p q
 both_ok P Q S (Err e) f p q = tt
 
+pub three_ok : {A E : Type 0} (P Q T S : Type 0) (r : Result A E) → (P → Q → T → S) → OnOk r P → OnOk r Q → OnOk r T → OnOk r S
+three_ok P Q T S (Ok a) f p q t = f p q t
+three_ok P Q T S (Err e) f p q t = tt
+
 pub one_ok : {A E : Type 0} (P Q : Type 0) (r : Result A E) → (P → Q) → OnOk r P → OnOk r Q
 one_ok P Q (Ok a) f p = f p
 one_ok P Q (Err e) f p = tt

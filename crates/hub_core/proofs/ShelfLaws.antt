@@ -1,6 +1,6 @@
 -- Numbers with their rooms: what is added, changed and taken out at a place.
 use Rattle.std.proofs.Common.{◌≡◌, ℕ, zero, suc, ◌<◌, ◌≤◌, ◌++◌, Bool, List, [], ◌∷◌, Option, Some, None, length, map, set, take, drop, refl, ap, ◌∙◌, arith}
-use Rattle.std.specs.Prelude.{slice_get, IfSome}
+use Rattle.std.specs.Prelude.{option_map, slice_get, IfSome}
 use Rattle.lists.proofs.RisingLaws.{RisesFrom-lower}
 use Rattle.std.proofs.lemmas.Bool.Decides.{nat_tests}
 use Rattle.lists.specs.Rising.{IsAbove, RisesFrom, find, remove}
@@ -97,3 +97,11 @@ lengths_at [] (l ∷ ls) at same = absurd (omega (arith, same))
 lengths_at (n ∷ ns) [] at same = absurd (omega (arith, same))
 lengths_at (n ∷ ns) (l ∷ ls) zero same = omega (arith, same)
 lengths_at (n ∷ ns) (l ∷ ls) (suc at) same = ap suc (lengths_at ns ls at (omega (arith, same)))
+
+-- the number at a place
+pub number_shown : (ns : List ℕ) (ls : List Listing) (i : ℕ) → length ns ≡ length ls → option_map number_of (slice_get (shown ns ls) i) ≡ slice_get ns i
+number_shown [] [] i same = refl
+number_shown [] (l ∷ ls) i same = absurd (omega (arith, same))
+number_shown (n ∷ ns) [] i same = absurd (omega (arith, same))
+number_shown (n ∷ ns) (l ∷ ls) zero same = refl
+number_shown (n ∷ ns) (l ∷ ls) (suc i) same = number_shown ns ls i (omega (arith, same))

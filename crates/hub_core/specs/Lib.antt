@@ -2,11 +2,14 @@ pub mod Conns
 pub mod Endings
 pub mod Lapsed
 pub mod Lapses
+pub mod Led
+pub mod Held
 pub mod Hubs
 pub mod Lawful
 pub mod Noted
 pub mod Played
 pub mod Registered
+pub mod Seated
 pub mod Shelved
 pub mod Shelves
 pub mod Stood

@@ -1,5 +1,5 @@
 -- The rooms of each definition, as a hub keeps them for requests.
-use Rattle.std.specs.Prelude.{◌≡◌, ℕ, ◌==◌, Bool, List, Option, Some, None, IfSome, filter, map, set, slice_get}
+use Rattle.std.specs.Prelude.{◌≡◌, ℕ, ◌==◌, Bool, List, [], Option, Some, None, IfSome, filter, map, set, slice_get}
 use Rattle.lists.specs.Rising.{remove}
 use Rattle.room_model.specs.Room.{RoomValue}
 use Rattle.room_model.specs.Seats.{in_use}
@@ -23,6 +23,10 @@ shelf_of room d ss = map (shown_of room) (filter (is_of_def d) ss)
 -- each shelf has the rooms of its definition
 abbrev pub AreShelved : {R : Type 0} → (R → RoomValue) → List (Stood R) → List (List Shown) → Type 0
 AreShelved room ss shelves = (d : ℕ) (shelf : List Shown) → slice_get shelves d ≡ Some shelf → shelf ≡ shelf_of room d ss
+
+-- no room is on a shelf
+abbrev pub AreEmpty : List (List Shown) → Type 0
+AreEmpty shelves = (d : ℕ) (shelf : List Shown) → slice_get shelves d ≡ Some shelf → shelf ≡ []
 
 -- how a room is shown behind a step of this one
 abbrev pub now_shown : {R : Type 0} → (R → RoomValue) → Stood R → Shown → Shown

@@ -1,10 +1,12 @@
 //! A hub's parts, and the events of one room.
-ghost use Rattle.std.specs.Prelude.{◌≡◌, ◌++◌, ℕ, true, List, Some, None, IfSome, IsSome, IsTrue, OnOk};
-ghost use Rattle.std.specs.List.{find};
+ghost use Rattle.std.specs.Prelude.{◌≡◌, ◌++◌, ◌<◌, ◌^◌, ℕ, true, List, Some, None, length, IfOk, IfSome, IsSome, IsTrue, OnOk};
+ghost use Rattle.std.specs.List.{find, list_all};
 ghost use Rattle.lists.specs.Rising.{find as find_by};
+ghost use Rattle.room_model.specs.Definitions.{is_room_def};
 ghost use Rattle.room_laws.specs.Names.{reserves};
 ghost use Rattle.room_laws.specs.Places.{may_happen};
 ghost use Rattle.room_laws.specs.StepLaws.{opens};
+ghost use Rattle.hub_model.specs.HubValues.{new_hub};
 ghost use Rattle.hub_model.specs.Ids.{is_id};
 ghost use Rattle.hub_core.specs.Hubs.{InOrder, Stands, hub_of};
 ghost use Rattle.hub_core.specs.Played.{played_in};
@@ -36,6 +38,26 @@ pub struct Parts<R> {
 }
 
 impl<R: RoomLike> Parts<R> {
+    /// The parts of a hub without rooms, at moment 0.
+    pub fn new(alloc: Global, schema: Schema, process: Id, defs: Defs) -> Result<Parts<R>, Memory>
+        requires few { length defs < 2 ^ 32 }
+        requires forms { list_all is_room_def defs ≡ true }
+        requires process { IsTrue (is_id process) }
+        ensures hub { IfOk result (λ p. hub_of R.room p ≡ new_hub schema process defs) }
+        ensures stands { IfOk result (Stands R.room R.Holds) }
+    {
+        let registry = Registry::new(alloc, defs.len())?;
+        Ok(Parts {
+            alloc,
+            moment: 0,
+            schema,
+            process,
+            defs,
+            registry,
+            conns: Conns::new(alloc),
+        })
+    }
+
     /// An event of the room of an id, which opens and reserves nothing; where there is no such room it is refused.
     pub fn play<L: Ledger>(
         &mut self,

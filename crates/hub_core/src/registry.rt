@@ -1,22 +1,26 @@
 //! The rooms of a hub, with what is noted of them.
-ghost use Rattle.std.specs.Prelude.{◌≡◌, ◌+◌, ◌≤◌, ◌<◌, ◌++◌, ◌∷◌, [], true, false, if◌then◌else◌, length, IfOk, IfSome, IsSome, IsTrue, OnOk};
-ghost use Rattle.lists.specs.Rising.{find as find_by, remove};
+ghost use Rattle.std.specs.Prelude.{◌≡◌, ◌+◌, ◌≤◌, ◌<◌, ◌++◌, ◌∷◌, [], None, true, false, if◌then◌else◌, length, set, slice_get, IfOk, IfSome, IsSome, IsTrue, OnOk};
+ghost use Rattle.std.specs.List.{find};
+ghost use Rattle.lists.specs.Rising.{IsAbove, find as find_by, remove};
 ghost use Rattle.room_laws.specs.Places.{may_happen};
 ghost use Rattle.hub_model.specs.HubStep.{disposals, is_needed};
 ghost use Rattle.hub_core.specs.Lapses.{has_lapse};
 ghost use Rattle.hub_core.specs.Noted.{IsNextOf, IsRenoted};
 ghost use Rattle.hub_core.specs.Registered.{IsKept};
-ghost use Rattle.hub_core.specs.Shelved.{Hides, Shows};
-ghost use Rattle.hub_core.specs.Stood.{AreOrdered, IsStepped, room_in, serial_of};
+ghost use Rattle.hub_core.specs.Shelved.{AreEmpty, Hides, Shows};
+ghost use Rattle.hub_core.specs.Shelves.{number_of};
+ghost use Rattle.hub_core.specs.Stood.{AreOrdered, IsStepped, has_id, room_in, serial_of};
 
 use crate::lapses::Lapses;
 use crate::rooms::Rooms;
 use crate::shelf::Shelf;
 use crate::stood::Stood;
-use hub_model::{HubOut, HubOuts};
+use hub_model::{HubOut, HubOuts, Listing};
 use lists::Memory;
 use room_like::RoomLike;
-use room_model::{RoomEvent, RoomOuts};
+use room_model::{RoomEvent, RoomOuts, Texts, copy_texts};
+use schema_model::Id;
+use std::alloc::Global;
 use std::sync::ledger::Ledger;
 use steps::Steps;
 
@@ -29,6 +33,19 @@ pub struct Registry<R> {
 }
 
 impl<R: RoomLike> Registry<R> {
+    /// No rooms, with a shelf for each of so many definitions.
+    pub fn new(alloc: Global, defs: usize) -> Result<Registry<R>, Memory>
+        ensures rooms { IfOk result (λ g. g.rooms ≡ []) }
+        ensures kept { IfOk result (IsKept R.room) }
+        ensures count { IfOk result (λ g. length g.shelves.items ≡ defs) }
+    {
+        Ok(Registry {
+            rooms: Rooms::new(alloc),
+            lapses: Lapses::new(alloc),
+            shelves: empty_shelves(alloc, defs)?,
+        })
+    }
+
     /// The step of the room of a number, which is noted.
     pub fn step<L: Ledger>(
         &mut self,
@@ -67,6 +84,38 @@ impl<R: RoomLike> Registry<R> {
             }
             None => Ok(()),
         }
+    }
+
+    /// Adds a room of a definition, with the criteria of its creation, and gives its number.
+    pub fn push(
+        &mut self,
+        alloc: Global,
+        id: Id,
+        def: u32,
+        criteria: Texts,
+        room: R,
+    ) -> Result<u64, Memory>
+        requires kept { IsKept R.room self.old }
+        requires new { find (has_id id) self.old.rooms ≡ None }
+        requires def { def < length self.old.shelves.items }
+        ensures above { IfOk result (λ serial. IsAbove serial_of serial self.old.rooms) }
+        ensures rooms { IfOk result (λ serial. self.new.rooms ≡ self.old.rooms ++ record { serial = serial; id = id; def = def; criteria = criteria; room = room } ∷ []) }
+        ensures kept { OnOk result (IsKept R.room self.new) }
+        ensures count { OnOk result (length self.new.shelves.items ≡ length self.old.shelves.items) }
+    {
+        let listing = Listing {
+            id,
+            def,
+            locked: room.locked(),
+            in_use: room.in_use(),
+            max: room.max(),
+            criteria: copy_texts(alloc, &criteria)?,
+        };
+        let lapse = room.next_lapse();
+        let serial = self.rooms.push(id, def, criteria, room)?;
+        shelve(def, serial, listing, &mut self.shelves)?;
+        self.lapses.change(serial, None, lapse)?;
+        Ok(serial)
     }
 
     /// Takes the room of a number out.
@@ -141,6 +190,27 @@ fn note_lapse<R: RoomLike>(
     ensures { OnOk result (IsRenoted (R.room room.now).seats serial before lapses.old lapses.new) }
 {
     lapses.change(serial, before, room.next_lapse())
+}
+
+// So many shelves without rooms.
+fn empty_shelves(alloc: Global, count: usize) -> Result<Vec<Shelf>, Memory>
+    ensures count { IfOk result (λ shelves. length shelves.items ≡ count) }
+    ensures empty { IfOk result (λ shelves. AreEmpty shelves.items) }
+{
+    let mut shelves = Vec::new(alloc);
+    for _ in 0..count {
+        shelves.push(Shelf::new(alloc))?;
+    }
+    Ok(shelves)
+}
+
+// Puts a new room on the shelf of its definition.
+fn shelve(def: u32, serial: u64, listing: Listing, shelves: &mut Vec<Shelf>) -> Result<(), Memory>
+    requires def { def < length shelves.old.items }
+    requires above { IfSome (slice_get shelves.old.items def) (IsAbove number_of serial) }
+    ensures { OnOk result (IfSome (slice_get shelves.old.items def) (λ shelf. shelves.new.items ≡ set shelves.old.items def (shelf ++ (serial, listing) ∷ []))) }
+{
+    shelves[def as usize].push(serial, listing)
 }
 
 // Notes how a room is shown to requests now.

@@ -1,9 +1,10 @@
 //! The rooms of a hub.
-ghost use Rattle.std.specs.Prelude.{◌≡◌, ◌+◌, ◌≤◌, ◌++◌, ◌∷◌, ◌<◌, ◌^◌, [], None, option_copied, option_map, IfOk, OnOk, IfSome, IsSome, IsTrue, false};
-ghost use Rattle.std.specs.List.{find};
-ghost use Rattle.lists.specs.Rising.{find as find_by, remove};
+ghost use Rattle.std.specs.Prelude.{◌≡◌, ◌+◌, ◌≤◌, ◌++◌, ◌∷◌, ◌<◌, ◌^◌, [], None, option_copied, option_map, slice_get, IfOk, OnOk, IfSome, IsSome, IsTrue, false};
+ghost use Rattle.std.specs.List.{find, list_any};
+ghost use Rattle.lists.specs.Rising.{IsAbove, find as find_by, remove};
 ghost use Rattle.room_laws.specs.Places.{may_happen};
-ghost use Rattle.hub_core.specs.Stood.{AreOrdered, IsStepped, has_id, serial_of};
+ghost use Rattle.hub_model.specs.HubValues.{knows};
+ghost use Rattle.hub_core.specs.Stood.{AreOrdered, IsStepped, has_id, room_in, rooms_in, serial_of};
 
 use crate::stood::Stood;
 use lists::Memory;
@@ -72,13 +73,35 @@ impl<R> Rooms<R> {
         self.by_serial.get(&serial)
     }
 
+    /// The room of an id.
+    pub fn find(&self, id: Id) -> Option<&Stood<R>>
+        ensures value { option_copied result ≡ find (has_id id) self.now }
+        ensures ordered { AreOrdered self.now }
+    {
+        let Some(serial) = self.serial_of(id) else {
+            return None;
+        };
+        self.get(serial)
+    }
+
+    /// The id of the room of a place. It passes over the rooms before it.
+    pub fn nth(&self, n: u32) -> Option<Id>
+        ensures { result ≡ option_map (λ s. s.id) (slice_get self.now n) }
+    {
+        match self.by_serial.values().nth(n as usize) {
+            Some(stood) => Some(stood.id),
+            None => None,
+        }
+    }
+
     /// Adds a room behind all others, and gives its number. After 2^64 - 1 rooms there is no number left, which is answered
     /// as want of memory.
     pub fn push(&mut self, id: Id, def: u32, criteria: Texts, room: R) -> Result<u64, Memory>
     where
         R: Drop,
         requires new { find (has_id id) self.old ≡ None }
-        ensures { IfOk result (λ serial. self.new ≡ self.old ++ record { serial = serial; id = id; def = def; criteria = criteria; room = room } ∷ []) }
+        ensures above { IfOk result (λ serial. IsAbove serial_of serial self.old) }
+        ensures rooms { IfOk result (λ serial. self.new ≡ self.old ++ record { serial = serial; id = id; def = def; criteria = criteria; room = room } ∷ []) }
     {
         let serial = self.next;
         let Some(next) = serial.checked_add(1) else {
@@ -118,6 +141,18 @@ impl<R> Rooms<R> {
 }
 
 impl<R: RoomLike> Rooms<R> {
+    /// Whether an id is a room's or a session's of one. It looks at each room.
+    pub fn knows(&self, id: Id) -> bool
+        ensures { result ≡ list_any (knows id) (rooms_in R.room self.now) }
+    {
+        'rooms: for (_, stood) in self.by_serial.iter() {
+            if knows(stood, id) {
+                return true;
+            }
+        }
+        false
+    }
+
     /// The step of the room of a number.
     pub fn step<L: Ledger>(
         &mut self,
@@ -136,6 +171,13 @@ impl<R: RoomLike> Rooms<R> {
         };
         stood.room.step(event, steps)
     }
+}
+
+// An id is a room's or a session's of it.
+fn knows<R: RoomLike>(stood: &Stood<R>, id: Id) -> bool
+    ensures { result ≡ knows id (room_in R.room stood.now) }
+{
+    stood.id.0 == id.0 || stood.room.has_session(id)
 }
 
 // An id as a key.

@@ -1,5 +1,5 @@
 //! The rooms of one definition.
-ghost use Rattle.std.specs.Prelude.{◌≡◌, ◌<◌, ◌++◌, ◌∷◌, [], Some, None, length, map, set, slice_get, IfNone, IfSome, OnOk};
+ghost use Rattle.std.specs.Prelude.{◌≡◌, ◌<◌, ◌++◌, ◌∷◌, [], Some, None, length, map, option_map, set, slice_get, IfNone, IfSome, OnOk};
 ghost use Rattle.lists.specs.Rising.{IsAbove, RisesFrom, find, remove};
 ghost use Rattle.hub_core.specs.Lapses.{itself};
 ghost use Rattle.hub_core.specs.Shelves.{number_of, renewed, with_state};
@@ -47,6 +47,13 @@ impl Shelf {
         self.listings.as_slice()
     }
 
+    /// The number of the room at a place.
+    pub fn serial_at(&self, at: u32) -> Option<u64>
+        ensures { result ≡ option_map number_of (slice_get self.now at) }
+    {
+        number_at(self.serials.as_slice(), at as usize)
+    }
+
     /// Adds a room whose number is above all others.
     pub fn push(&mut self, serial: u64, listing: Listing) -> Result<(), Memory>
         requires { IsAbove number_of serial self.old }
@@ -76,6 +83,13 @@ impl Shelf {
             self.listings.remove(at);
         }
     }
+}
+
+// The number at a place.
+fn number_at(serials: &[u64], at: usize) -> Option<u64>
+    ensures { result ≡ slice_get serials.now at }
+{
+    serials.get(at).copied()
 }
 
 // Where a number stands among those that rise.

@@ -28,8 +28,8 @@ use Rattle.hub_model.specs.HubValues.{HubValue, HubRoom, conn_number, is_named, 
 use Rattle.hub_model.specs.Dealt.{Dealt, dealt, ends, conns_left}
 use Rattle.hub_model.specs.HubStep.{deals, all_dealt, enters, conns_with, is_needed}
 use Rattle.life_model.specs.HubPromises.{rules_of}
-use Rattle.hub_promises.proofs.Different.{found_in, find-map, named_kept, any_of_name, differ_mapped}
-use Rattle.hub_promises.proofs.Deals.{RoomsDiffer, Few, rooms_for, dealt_to, dealt_of, dealt_found, dealt_differ, connected_at, Ready}
+use Rattle.hub_laws.proofs.Different.{found_in, find-map, named_kept, any_of_name, differ_mapped, RoomsDiffer}
+use Rattle.hub_promises.proofs.Deals.{Few, rooms_for, dealt_to, dealt_of, dealt_found, dealt_differ, connected_at, Ready}
 use Rattle.hub_promises.proofs.Connected.{connected_behind, entry_opened}
 use Rattle.hub_promises.proofs.Openings.{opening, number_of, opened_conns, any_all, all_rise}
 

@@ -16,12 +16,9 @@ use Rattle.hub_model.specs.declared.event.HubEvent.{HubEvent}
 use Rattle.hub_model.specs.HubValues.{HubValue, HubRoom, is_named, is_conn_for, conn_number}
 use Rattle.hub_model.specs.Dealt.{RoomStep, with_room, Dealt, dealt_from, dealt}
 use Rattle.hub_model.specs.HubStep.{Rules, deals, makes, all_dealt}
-use Rattle.hub_promises.proofs.Different.{Differ, find-map, find_agree, differ_mapped}
+use Rattle.hub_laws.proofs.Different.{Differ, RoomsDiffer, find-map, find_agree, differ_mapped}
 
 -- ---- the ids of rooms
-
-abbrev pub RoomsDiffer : List HubRoom → Type 0
-RoomsDiffer rs = Differ (λ (r : HubRoom). r.id) rs
 
 abbrev pub DealtDiffer : List Dealt → Type 0
 DealtDiffer ds = Differ (λ (d : Dealt). d.room.id) ds

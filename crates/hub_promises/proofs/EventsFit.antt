@@ -29,9 +29,9 @@ use Rattle.hub_model.specs.HubValues.{HubValue, HubRoom, is_named, conn_of, conn
 use Rattle.hub_model.specs.HubStep.{Rules, room_made, decided, reserved_in, opened_by, event_if, event_in, event_of_conn, event_of_opening, deals, makes, moment_at, lapses_by}
 use Rattle.room_model.specs.Acts.{is_worded_act}
 use Rattle.life_model.specs.HubPromises.{may_come}
-use Rattle.hub_promises.proofs.Different.{passes_any, named_own, differ_more}
-use Rattle.hub_promises.proofs.Deals.{RoomsDiffer, Few, rooms_for, connected_at}
-use Rattle.hub_promises.proofs.Asked.{New, request_reserves, def_fits}
+use Rattle.hub_laws.proofs.Different.{passes_any, named_own, differ_more, RoomsDiffer}
+use Rattle.hub_promises.proofs.Deals.{Few, rooms_for, connected_at}
+use Rattle.hub_laws.proofs.Asked.{New, request_reserves, def_fits}
 
 -- ---- with a room that is made
 

@@ -16,7 +16,7 @@ use Rattle.hub_model.specs.Dealt.{to_conn, told_out, opened_out}
 use Rattle.life_model.specs.Entries.{Sending, Frame, Closing}
 use Rattle.life_model.specs.RoomLives.{given_by}
 use Rattle.life_model.specs.HubLives.{own_output}
-use Rattle.hub_promises.proofs.Different.{found_passes}
+use Rattle.hub_laws.proofs.Different.{found_passes}
 use Rattle.std.proofs.lemmas.List.Elements.{All-head, All-tail}
 use Rattle.room_model.specs.Room.{RoomValue, after_enter}
 use Rattle.room_promises.proofs.EventCases.{enter_cases}

@@ -20,8 +20,9 @@ use Rattle.life_model.specs.HubPromises.{rules_of, may_come}
 use Rattle.life_model.specs.HubLives.{HubLife, HubRun, in_room}
 use Rattle.room_promises.proofs.GoodLives.{GoesOn}
 use Rattle.room_promises.proofs.RoomSteps.{GoodRoom, new_good}
-use Rattle.hub_promises.proofs.Deals.{RoomsDiffer, rooms_for, connected_at, Ready}
-use Rattle.hub_promises.proofs.Asked.{New}
+use Rattle.hub_laws.proofs.Different.{RoomsDiffer}
+use Rattle.hub_promises.proofs.Deals.{rooms_for, connected_at, Ready}
+use Rattle.hub_laws.proofs.Asked.{New}
 use Rattle.hub_promises.proofs.EventsFit.{made_new, rooms_differ, same_connected, few_dealt}
 
 -- a room of a hub, with the state of its last tick: each life in it that goes on has its session

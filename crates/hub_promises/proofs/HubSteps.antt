@@ -25,9 +25,9 @@ use Rattle.life_model.specs.HubPromises.{rules_of, may_come}
 use Rattle.life_model.specs.RoomLives.{is_in}
 use Rattle.life_model.specs.HubLives.{HubLife, HubRun, in_room, new_life, lived, begun, run_step}
 use Rattle.room_promises.proofs.GoodLives.{GoesOn, GoodLife}
-use Rattle.hub_promises.proofs.Different.{found_in, named_own, differ_kept}
+use Rattle.hub_laws.proofs.Different.{found_in, named_own, differ_kept}
 use Rattle.hub_promises.proofs.Deals.{rooms_for, dealt_to, dealt_room, dealt_id, Ready}
-use Rattle.hub_promises.proofs.Asked.{request_reserves}
+use Rattle.hub_laws.proofs.Asked.{request_reserves}
 use Rattle.hub_promises.proofs.EventsFit.{moment_early}
 use Rattle.hub_promises.proofs.Conns.{next_differ, next_steps, next_numbers}
 use Rattle.hub_promises.proofs.Moves.{Moves, moves, lived_in}

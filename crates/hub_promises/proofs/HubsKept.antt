@@ -22,7 +22,7 @@ use Rattle.life_model.specs.HubPromises.{rules_of, may_come, CanRun, HubKeeps, H
 use Rattle.room_promises.proofs.GoodLives.{GoesOn}
 use Rattle.room_promises.proofs.RoomsKept.{life_sees}
 use Rattle.lists.proofs.SameBytes.{same_bytes}
-use Rattle.hub_promises.proofs.Different.{found_in, found_passes}
+use Rattle.hub_laws.proofs.Different.{found_in, found_passes}
 use Rattle.hub_promises.proofs.GoodHubs.{GoodPlace, GoodEnd, GoodHub}
 use Rattle.hub_promises.proofs.HubSteps.{step_good}
 

@@ -1,9 +1,6 @@
-pub mod Different
 pub mod Deals
 pub mod Openings
 pub mod Connected
-pub mod Decided
-pub mod Asked
 pub mod EventsFit
 pub mod Conns
 pub mod Given

@@ -21,7 +21,7 @@ use Rattle.life_model.specs.HubPromises.{rules_of}
 use Rattle.life_model.specs.RoomLives.{is_in, given_by}
 use Rattle.life_model.specs.HubLives.{HubLife, in_room, session_in, asked_entries, is_seat_of, reply_given, entries_dealt, view_dealt, room_dealt, outputs_of}
 use Rattle.room_promises.proofs.GoodLives.{GoesOn, GoodLife}
-use Rattle.hub_promises.proofs.Different.{named_kept, find-map}
+use Rattle.hub_laws.proofs.Different.{named_kept, find-map}
 use Rattle.hub_promises.proofs.Deals.{rooms_for, dealt_to, dealt_found, Ready}
 use Rattle.hub_promises.proofs.Conns.{next_differ}
 use Rattle.hub_promises.proofs.Outputs.{outputs_given}

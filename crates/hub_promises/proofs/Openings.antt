@@ -13,7 +13,7 @@ use Rattle.hub_model.specs.Dealt.{Dealt, dealt}
 use Rattle.hub_model.specs.HubStep.{Rules, reserved_in, decided, opened_by, opening_of, entered_conns, event_if, event_in, event_of_conn, event_of_opening, deals, conns_with, moment_at, lapses_by, enters}
 use Rattle.lists.specs.Rising.{RisesFrom, put}
 use Rattle.lists.proofs.RisingLaws.{RisesFrom-put}
-use Rattle.hub_promises.proofs.Different.{any_put}
+use Rattle.hub_laws.proofs.Different.{any_put}
 
 -- ---- an opening
 

@@ -28,7 +28,7 @@ use Rattle.life_model.specs.Entries.{Sending}
 use Rattle.life_model.specs.HubPromises.{rules_of}
 use Rattle.life_model.specs.RoomLives.{given_by}
 use Rattle.life_model.specs.HubLives.{HubLife, own_output, outputs_of}
-use Rattle.hub_promises.proofs.Different.{found_any, named_own, joined_named}
+use Rattle.hub_laws.proofs.Different.{found_any, named_own, joined_named}
 use Rattle.hub_promises.proofs.Deals.{rooms_for, dealt_to, dealt_id, dealt_of, dealt_found, dealt_differ, Ready}
 use Rattle.hub_promises.proofs.Connected.{heard}
 use Rattle.hub_promises.proofs.Conns.{new_conns, entry_at, any_enters, all_conns}

@@ -17,7 +17,7 @@ use Rattle.hub_model.specs.Dealt.{Dealt, ends}
 use Rattle.hub_model.specs.HubStep.{deals, all_dealt, enters, conns_with, hub_step}
 use Rattle.life_model.specs.HubPromises.{rules_of}
 use Rattle.life_model.specs.HubLives.{HubLife, is_own}
-use Rattle.hub_promises.proofs.Different.{found_in, any_numbered}
+use Rattle.hub_laws.proofs.Different.{found_in, any_numbered}
 use Rattle.hub_promises.proofs.Deals.{rooms_for, dealt_to, dealt_found, Ready}
 use Rattle.hub_promises.proofs.Connected.{entry_ends_none}
 use Rattle.hub_promises.proofs.Openings.{opening, number_of, opened_conns, any_all, all_rise}

@@ -32,7 +32,7 @@ invariant_of-self-in-Ok g c =
     }
 
 pub returns-in-Ok : goal.returns-in-Ok
-returns-in-Ok g c = rw (← c.self.view_is) (with g c)
+returns-in-Ok g c = record { above = rw (← c.self.view_is) c.self.invariant.below; rooms = rw (← c.self.view_is) (with g c) }
 
 pub invariant_of-self-in-Err : goal.invariant_of-self-in-Err
 invariant_of-self-in-Err g c =

@@ -21,10 +21,10 @@ use Rattle.hub_model.specs.Decisions as decisions
 use Rattle.hub_model.specs.Decisions.{is_open, meets, joined_or, joined_at, kept_at, in_def, room_at, texts_eq, room_is_locked}
 use Rattle.hub_model.specs.HubValues.{HubValue, listings}
 use Rattle.hub_model.specs.HubStep.{led, kept_session}
-use Rattle.hub_promises.proofs.Different.{found_passes}
+use Rattle.hub_laws.proofs.Different.{found_passes}
 
 -- the item of a position passes
-position_passes : {X : Type 0} (p : X → Bool) (xs : List X) (i : ℕ) → position p xs ≡ Some i → (x : X) × (slice_get xs i ≡ Some x) × (p x ≡ true)
+pub position_passes : {X : Type 0} (p : X → Bool) (xs : List X) (i : ℕ) → position p xs ≡ Some i → (x : X) × (slice_get xs i ≡ Some x) × (p x ≡ true)
 position_passes {X} p xs i h = by_place (nat_lt (position_or_len p xs) (length xs)) refl h
   where
     Here : Type 0

@@ -24,9 +24,8 @@ use Rattle.hub_model.specs.Decisions.{is_open}
 use Rattle.hub_model.specs.HubValues.{HubValue, HubRoom, is_named, room_of, listing_of, listings, knows, is_used}
 use Rattle.hub_model.specs.Dealt.{in_use_text}
 use Rattle.hub_model.specs.HubStep.{Rules, led, drawn, criteria_of, room_made, rooms_made, reserved_in, decided}
-use Rattle.hub_promises.proofs.Different.{found_passes, found_in, here_or_behind, named_own, taken_in, passes_any}
-use Rattle.hub_promises.proofs.Deals.{RoomsDiffer}
-use Rattle.hub_promises.proofs.Decided.{JoinsOpen, led_opens}
+use Rattle.hub_laws.proofs.Different.{found_passes, found_in, here_or_behind, named_own, taken_in, passes_any, RoomsDiffer}
+use Rattle.hub_laws.proofs.Decided.{JoinsOpen, led_opens}
 
 -- ---- places
 

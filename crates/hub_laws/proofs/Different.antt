@@ -9,6 +9,7 @@ use Rattle.std.proofs.lemmas.List.Elements.{Contains-append_right, Contains-appe
 use Rattle.lists.specs.Rising.{RisesFrom, put, find as find_by}
 use Rattle.lists.proofs.RisingLaws.{find_below}
 use Rattle.lists.proofs.SameBytes.{same_bytes, bytes_eq_self, bytes_eq_sym}
+use Rattle.hub_model.specs.HubValues.{HubRoom}
 use Rattle.room_laws.proofs.SessionLists.{named, named_more}
 use Rattle.std.proofs.lemmas.List.Folds.{list_any_at}
 use Rattle.std.proofs.lemmas.Option.{slice_get_within, get_or_from_slice_get}
@@ -195,3 +196,8 @@ module _ {X : Type 0} (number : X → ℕ) where
           → list_any p (cond (nat_lt (number x) (number y)) (x ∷ y ∷ ys) (cond b (x ∷ ys) (y ∷ put number x ys))) ≡ ((p y || list_any p ys) || (p x || false))
       by_number rest true e h = cc
       by_number rest false e h = by_order (rest h) (nat_lt (number x) (number y))
+
+-- ---- the ids of rooms
+
+abbrev pub RoomsDiffer : List HubRoom → Type 0
+RoomsDiffer rs = Differ (λ (r : HubRoom). r.id) rs

@@ -1,0 +1,162 @@
+//! The hub.
+ghost use Rattle.std.specs.Prelude.{◌≡◌, true, false, Some, is_some, option_map, slice_get, IfOk, IfSome, IsErr, IsTrue, OnErr, OnOk};
+ghost use Rattle.hub_model.specs.HubStep.{hub_step};
+ghost use Rattle.hub_model.specs.HubValues.{new_hub, room_of};
+ghost use Rattle.hub_model.specs.Ids.{is_id};
+ghost use Rattle.hub_core.specs.Held.{are_hub_defs, is_worded, may_take};
+ghost use Rattle.hub_core.specs.Hubs.{Stands, hub_of};
+ghost use Rattle.hub_core.specs.Takes.{Takes, rules_of};
+
+use crate::parts::Parts;
+use hub_model::{HubEvent, HubOuts};
+use lists::{Memory, Seq};
+use room_like::RoomLike;
+use room_model::{Act, Defs};
+use schema_model::{Id, Schema};
+use state_model::know_texts;
+use std::alloc::Global;
+use std::marker::Model;
+use std::sync::ledger::Ledger;
+use steps::Steps;
+
+/// A hub of rooms, with its connections and its moment. After it answered want of memory it answers it for good.
+#[derive(Drop)]
+pub struct Hub<R: RoomLike> {
+    parts: Parts<R>,
+    spent: bool,
+}
+
+impl<R: RoomLike> Model for Hub<R> {
+    ghost use Rattle.std.specs.Prelude.{◌≡◌, false};
+    ghost use Rattle.hub_core.specs.Held.{Held};
+    ghost use Rattle.hub_core.specs.Hubs.{Stands, hub_of};
+
+    ghost Value = { Held };
+
+    ghost view = { λ h. record { hub = hub_of R.room h.parts; spent = h.spent } };
+
+    ghost invariant = { λ h. h.spent ≡ false → Stands R.room R.Holds h.parts };
+}
+
+impl<R: RoomLike> Hub<R> {
+    /// A hub without rooms, at moment 0. Whether definitions will do is what `are_hub_defs` says, and whether an id will do
+    /// what `is_id` does.
+    pub fn new(alloc: Global, schema: Schema, process: Id, defs: Defs) -> Result<Hub<R>, Memory>
+        requires defs { IsTrue (are_hub_defs defs) }
+        requires process { IsTrue (is_id process) }
+        ensures { IfOk result (λ h. h ≡ record { hub = new_hub schema process defs; spent = false }) }
+    {
+        let parts = Parts::new(alloc, schema, process, defs)?;
+        Ok(Hub {
+            parts,
+            spent: false,
+        })
+    }
+
+    /// The hub's step, and what it gives. Unless the hub is spent, the ids that come with a request and with an opening were
+    /// drawn of the characters of ids, there are fewer than 2^32 - 1 rooms at a request, and an act is within the limits. Any
+    /// event may come to a spent hub. Where it answers `Memory` the hub is spent.
+    pub fn step<L: Ledger>(
+        &mut self,
+        event: &HubEvent,
+        steps: &mut Steps<L>,
+    ) -> Result<HubOuts, Memory>
+        requires { self.old.spent ≡ false → IsTrue (may_take self.old.hub event.now) }
+        ensures outs { IfOk result (λ outs. outs ≡ (hub_step (rules_of R.happens) self.old.hub event.now).1) }
+        ensures after { OnOk result (self.new ≡ record { hub = (hub_step (rules_of R.happens) self.old.hub event.now).0; spent = false }) }
+        ensures spent { OnErr result (self.new.spent ≡ true) }
+        ensures for_good { self.old.spent ≡ true → IsErr result }
+        ensures worded { IsTrue (is_worded event.now) }
+    {
+        know_event(event);
+        if self.spent {
+            return Err(Memory);
+        }
+        self.spent = true;
+        let mut outs = Seq::new(self.parts.alloc);
+        self.parts.take(event, &mut outs, steps)?;
+        self.spent = false;
+        Ok(outs)
+    }
+
+    /// The room of an id.
+    pub fn room(&self, id: Id) -> Option<&R>
+        ensures there { is_some result ≡ is_some (room_of self.now.hub id) }
+        ensures room { IfSome result (λ r. option_map (λ r. r.room) (room_of self.now.hub id) ≡ Some (R.room r.now)) }
+    {
+        match self.parts.registry.rooms.find(id) {
+            Some(stood) => Some(&stood.room),
+            None => None,
+        }
+    }
+
+    /// The id of the room of a place, in the order of creation.
+    pub fn nth_room(&self, n: u32) -> Option<Id>
+        ensures { result ≡ option_map (λ r. r.id) (slice_get self.now.hub.rooms n) }
+    {
+        self.parts.registry.rooms.nth(n)
+    }
+
+    /// The moment, in milliseconds.
+    pub fn now(&self) -> u64
+        ensures { result ≡ self.now.hub.now }
+    {
+        self.parts.moment
+    }
+}
+
+impl<R: RoomLike> Parts<R> {
+    // The step of the parts, for each event.
+    fn take<L: Ledger>(
+        &mut self,
+        event: &HubEvent,
+        told: &mut HubOuts,
+        steps: &mut Steps<L>,
+    ) -> Result<(), Memory>
+        requires stands { Stands R.room R.Holds self.old }
+        requires may { IsTrue (may_take (hub_of R.room self.old) event.now) }
+        ensures { OnOk result (Takes R.room R.Holds R.happens event.now self.old self.new told.old told.new) }
+    {
+        match event {
+            HubEvent::At(now) => self.moment(*now, told, steps),
+            HubEvent::Ask {
+                conn,
+                target,
+                body,
+                room,
+                session,
+            } => self.ask(
+                *conn,
+                target.as_str(),
+                body.as_slice(),
+                *room,
+                *session,
+                told,
+                steps,
+            ),
+            HubEvent::Bad { conn } => self.bad(*conn, told),
+            HubEvent::Opening {
+                conn,
+                target,
+                fresh,
+            } => self.opening(*conn, target.as_str(), *fresh, told, steps),
+            HubEvent::Frame { conn, bytes } => self.frame(*conn, bytes, told, steps),
+            HubEvent::Lost { conn } => self.lost(*conn, told, steps),
+            HubEvent::Act { room, act } => self.act(*room, act, told, steps),
+            HubEvent::Tick { room } => self.tick(*room, told, steps),
+        }
+    }
+}
+
+// The texts that an event's command puts are UTF-8. It does nothing else than to say so.
+fn know_event(event: &HubEvent)
+    ensures { IsTrue (is_worded event.now) }
+{
+    if let HubEvent::Act {
+        act: Act::State(command),
+        ..
+    } = event
+    {
+        know_texts(command);
+    }
+}

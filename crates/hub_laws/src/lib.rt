@@ -1,0 +1,2 @@
+//! Laws of a hub's step, as it is defined: what a request makes and reserves.
+#![tactic(auto)]
