@@ -1,5 +1,5 @@
 -- A room that is added behind all others, with what is noted of it.
-use Rattle.std.proofs.Common.{◌≡◌, ℕ, ◌<◌, ◌==◌, ◌++◌, Bool, true, false, List, [], ◌∷◌, Option, Some, None, IfSome, filter, length, map, set, refl, sym, ap, subst, ◌∙◌, arith, cond, zero, suc}
+use Rattle.std.proofs.Common.{◌≡◌, ℕ, ◌<◌, ◌==◌, ◌++◌, Bool, true, false, List, [], ◌∷◌, Option, Some, None, IfSome, filter, length, map, set, refl, sym, ap, subst, ◌∙◌, arith, cond, zero, suc, append-nil}
 use Rattle.std.specs.Prelude.{slice_get}
 use Rattle.std.proofs.lemmas.Bool.Decides.{nat_tests}
 use Rattle.lists.specs.Rising.{IsAbove, find as find_by}
@@ -64,10 +64,6 @@ above_shelf room old d n kept above = by_shelf (slice_get old.shelves.items d) r
     by_shelf None is = tt
     by_shelf (Some shelf) is = subst (IsAbove number_of n) (sym (kept.shelved d shelf is)) (above_on room d n old.rooms above)
 
-append_none : {X : Type 0} (xs : List X) → xs ≡ xs ++ []
-append_none [] = refl
-append_none (x ∷ xs) = ap (λ l. x ∷ l) (append_none xs)
-
 AreShelved-last : {R : Type 0} (room : R → RoomValue) (s : Stood R) (ss : List (Stood R)) (olds : List (List Shown)) (old : List Shown) → slice_get olds s.def ≡ Some old → AreShelved room ss olds → AreShelved room (ss ++ s ∷ []) (set olds s.def (old ++ shown_of room s ∷ []))
 AreShelved-last room s ss olds old at h d shelf got = by_def (s.def == d) refl
   where
@@ -79,7 +75,7 @@ AreShelved-last room s ss olds old at h d shelf got = by_def (s.def == d) refl
         ∙ sym (shelf_more room d s ss ∙ ap (λ b. shelf_of room d ss ++ cond b (shown_of room s ∷ []) []) is))
     by_def false is =
         h d shelf (set_at olds s.def d (old ++ shown_of room s ∷ []) shelf got false is)
-        ∙ (append_none (shelf_of room d ss) ∙ sym (shelf_more room d s ss ∙ ap (λ b. shelf_of room d ss ++ cond b (shown_of room s ∷ []) []) is))
+        ∙ (sym (append-nil (shelf_of room d ss)) ∙ sym (shelf_more room d s ss ∙ ap (λ b. shelf_of room d ss ++ cond b (shown_of room s ∷ []) []) is))
 
 -- ---- all of it
 

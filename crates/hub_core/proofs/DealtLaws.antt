@@ -1,5 +1,5 @@
 -- What all rooms make of the events that are theirs, where one room has an event and the others have none.
-use Rattle.std.proofs.Common.{◌≡◌, ℕ, suc, ◌<◌, ◌==◌, ◌++◌, ◌||◌, Bool, true, false, not, List, [], ◌∷◌, Some, filter, map, refl, sym, ap, ap₂, subst, ◌∙◌, arith, cond, nat_lt}
+use Rattle.std.proofs.Common.{◌≡◌, ℕ, suc, ◌<◌, ◌==◌, ◌++◌, ◌||◌, Bool, true, false, not, List, [], ◌∷◌, Some, filter, map, refl, sym, ap, ap₂, subst, ◌∙◌, arith, cond, nat_lt, append-nil}
 use Rattle.std.specs.List.{flat_map, list_any}
 use Rattle.std.proofs.lemmas.Bool.Decides.{nat_tests}
 use Rattle.lists.specs.Rising.{RisesFrom, find as find_by, put, remove}
@@ -62,10 +62,6 @@ module _ {R : Type 0} (room : R → RoomValue) (step : RoomStep) (es : HubRoom �
       let other : (s.serial == n) ≡ false = grind (arith, nat_tests, rises.0, less) in
       ap₂ (λ x y. x ++ y) (ap (λ l. f (dealt step (room_in room s) l)) (quiet.0 other) ∙ silent (room_in room s)) (quiet_given f n (suc s.serial) ss silent rises.1 (grind (arith, rises.0, less)) quiet.1)
 
-  append_none : {X : Type 0} (xs : List X) → xs ++ [] ≡ xs
-  append_none [] = refl
-  append_none (x ∷ xs) = ap (λ l. x ∷ l) (append_none xs)
-
   given_first : {X : Type 0} (f : Dealt → List X) (n low : ℕ) (s : Stood R) (e : RoomEvent) (x : Stood R) (ss : List (Stood R)) → ((r : HubRoom) → f (dealt step r []) ≡ []) → RisesFrom serial_of low (x ∷ ss)
       → find_by serial_of n (x ∷ ss) ≡ Some s → AreQuiet n (x ∷ ss) → es (room_in room s) ≡ e ∷ [] → (find_by serial_of n ss ≡ Some s → flat_map f (all_of ss) ≡ f (dealt step (room_in room s) (e ∷ [])))
       → (b : Bool) → (x.serial == n) ≡ b → flat_map f (all_of (x ∷ ss)) ≡ f (dealt step (room_in room s) (e ∷ []))
@@ -73,7 +69,7 @@ module _ {R : Type 0} (room : R → RoomValue) (step : RoomStep) (es : HubRoom �
       let one : x ≡ s = (let k : Some x ≡ Some s = rw here at found in cc) in
       let first : f (dealt step (room_in room x) (es (room_in room x))) ≡ f (dealt step (room_in room s) (e ∷ [])) =
       subst (λ y. f (dealt step (room_in room y) (es (room_in room y))) ≡ f (dealt step (room_in room s) (e ∷ []))) (sym one) (ap (λ l. f (dealt step (room_in room s) l)) own) in
-      ap₂ (λ y z. y ++ z) first (quiet_given f n (suc x.serial) ss silent rises.1 (grind (arith, nat_tests, here)) quiet.1) ∙ append_none (f (dealt step (room_in room s) (e ∷ [])))
+      ap₂ (λ y z. y ++ z) first (quiet_given f n (suc x.serial) ss silent rises.1 (grind (arith, nat_tests, here)) quiet.1) ∙ append-nil (f (dealt step (room_in room s) (e ∷ [])))
   given_first f n low s e x ss silent rises found quiet own others false other =
       let rest : find_by serial_of n ss ≡ Some s = rw other at found in
       ap₂ (λ y z. y ++ z) (ap (λ l. f (dealt step (room_in room x) l)) (quiet.0 other) ∙ silent (room_in room x)) (others rest)

@@ -18,6 +18,8 @@ use Rattle.hub_model.specs.declared.request.Opening.{Opening}
 use Rattle.hub_model.specs.Dealt.{RoomStep}
 use Rattle.hub_model.specs.HubStep.{entered_conns, enters, is_needed}
 use Rattle.hub_model.specs.HubValues.{conn_for, conn_number, is_conn_for}
+use Rattle.hub_core.proofs.PlayedLaws.{all_found}
+use Rattle.hub_core.proofs.IdleLaws.{and_false}
 use Rattle.hub_core.specs.declared.parts.Parts.{Parts}
 use Rattle.hub_core.specs.declared.registry.Registry.{Registry}
 use Rattle.hub_core.specs.declared.stood.Stood.{Stood}
@@ -39,15 +41,6 @@ use Rattle.hub_core.proofs.TurnLaws as turn
 pub may_enter : {R : Type 0} (room : R → RoomValue) (session : List ℕ) (token : Option (List ℕ)) (fresh : List ℕ) (o : Option (Stood R)) → IfSome o (λ s. IsTrue (may_happen (room s.room) (event.Enter session token fresh)))
 may_enter room session token fresh None = tt
 may_enter room session token fresh (Some s) = refl
-
--- what holds of all holds of the one that is found
-all_found : {X : Type 0} (q p : X → Bool) (xs : List X) (x : X) → list_all q xs ≡ true → find p xs ≡ Some x → (q x ≡ true) × (p x ≡ true)
-all_found q p [] x all found = absurd cc
-all_found {X = X} q p (y ∷ ys) x all found = by_first (p y) refl found (λ rest. all_found q p ys x (and_parts (q y) (list_all q ys) all).1 rest)
-  where
-    by_first : (b : Bool) → p y ≡ b → cond b (Some y) (find p ys) ≡ Some x → (find p ys ≡ Some x → (q x ≡ true) × (p x ≡ true)) → (q x ≡ true) × (p x ≡ true)
-    by_first true here is rest = (let one : y ≡ x = cc in (subst (λ z. q z ≡ true) one (and_parts (q y) (list_all q ys) all).0, subst (λ z. p z ≡ true) one here))
-    by_first false other is rest = rest is
 
 -- and of all with one more
 all_put : {X : Type 0} (key : X → ℕ) (q : X → Bool) (x : X) (xs : List X) → q x ≡ true → list_all q xs ≡ true → list_all q (put key x xs) ≡ true
@@ -120,10 +113,6 @@ module _ {R : Type 0} (room : R → RoomValue) (is_spent : R → Bool) (Holds : 
   entered_any =
       played.any_played room happens o.room ev s old.registry.rooms ordered f.is (enters o) (λ r. and_false (bytes_eq r.id o.room))
       ∙ ap₂ (λ a b. a && b) (ap (λ k. bytes_eq k o.room) name ∙ bytes_eq_self o.room) (ap (list_any (is_entry o.session)) (sym outs_is))
-    where
-      and_false : (b : Bool) → (b && false) ≡ false
-      and_false true = refl
-      and_false false = refl
 
   pub conns_entered : (conn : ℕ) → with_newcomer conn ≡ entered_conns old.conns conn (dealt_in happens (rooms_in room old.registry.rooms) o.room ev) (Some o)
   conns_entered conn = ap (λ b. cond b (put conn_number (newcomer conn) old.conns) old.conns) (sym entered_any)

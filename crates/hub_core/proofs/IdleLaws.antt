@@ -25,7 +25,7 @@ pub idle_given : {X : Type 0} (step : RoomStep) (f : Dealt → List X) → ((r :
 idle_given step f silent [] = refl
 idle_given step f silent (r ∷ rooms) = ap₂ (λ a b. a ++ b) (silent r) (idle_given step f silent rooms)
 
-and_false : (b : Bool) → (b && false) ≡ false
+pub and_false : (b : Bool) → (b && false) ≡ false
 and_false true = refl
 and_false false = refl
 

@@ -18,6 +18,7 @@ use Rattle.hub_model.specs.declared.event.HubOut.TheVariants as out
 use Rattle.hub_model.specs.Dealt.{Dealt, RoomStep, conns_left, dealt, dealt_from, ends, to_conn, told_out, with_room}
 use Rattle.hub_model.specs.HubStep.{event_if}
 use Rattle.hub_model.specs.HubValues.{HubRoom, conn_for, is_conn_for}
+use Rattle.hub_core.proofs.IdleLaws.{and_false}
 use Rattle.hub_core.specs.declared.parts.Parts.{Parts}
 use Rattle.hub_core.specs.declared.stood.Stood.{Stood}
 use Rattle.hub_core.specs.Endings.{ended_by, is_of, without_all}
@@ -147,10 +148,6 @@ module _ {R : Type 0} (room : R → RoomValue) (step : RoomStep) (at : ℕ) wher
         by_tests true b h = refl
         by_tests false true h = rw h refl
         by_tests false false h = rw h refl
-
-    and_false : (b : Bool) → (b && false) ≡ false
-    and_false true = refl
-    and_false false = refl
 
     pub lapsed_conns : (ss : List (Stood R)) (cs : List HubConn) → RisesFrom serial_of 0 ss → find_by serial_of n ss ≡ Some s
         → conns_left (lapsed room step at (n ∷ rest) ss) cs ≡ conns_left (lapsed room step at rest (put serial_of t ss)) (without_all s.id (flat_map ended_by (step (room s.room) ev).1) cs)
@@ -306,11 +303,7 @@ no_told room step at cs (x ∷ ss) = no_told room step at cs ss
 
 no_ends : {R : Type 0} (room : R → RoomValue) (step : RoomStep) (at : ℕ) (c : HubConn) (ss : List (Stood R)) → list_any (ends c) (lapsed room step at [] ss) ≡ false
 no_ends room step at c [] = refl
-no_ends room step at c (x ∷ ss) = rw (and_none (bytes_eq x.id c.room)) (no_ends room step at c ss)
-  where
-    and_none : (b : Bool) → (b && false) ≡ false
-    and_none true = refl
-    and_none false = refl
+no_ends room step at c (x ∷ ss) = rw (and_false (bytes_eq x.id c.room)) (no_ends room step at c ss)
 
 no_conns : {R : Type 0} (room : R → RoomValue) (step : RoomStep) (at : ℕ) (ss : List (Stood R)) (cs : List HubConn) → conns_left (lapsed room step at [] ss) cs ≡ cs
 no_conns room step at ss [] = refl

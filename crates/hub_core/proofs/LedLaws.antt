@@ -23,6 +23,8 @@ use Rattle.hub_model.specs.Decisions.{decide, in_def, is_open, joined_at, joined
 use Rattle.hub_model.specs.HubStep.{kept_session}
 use Rattle.hub_model.specs.HubValues.{HubRoom, HubValue, listing_of, listings, room_of}
 use Rattle.hub_laws.proofs.Decided.{position_passes}
+use Rattle.hub_laws.proofs.Different.{found_passes, find-map}
+use Rattle.hub_core.proofs.IdleLaws.{and_false}
 use Rattle.hub_core.specs.declared.parts.Parts.{Parts}
 use Rattle.hub_core.specs.declared.stood.Stood.{Stood}
 use Rattle.hub_model.specs.Ids.{is_id}
@@ -33,7 +35,6 @@ use Rattle.hub_core.specs.Shelves.{Shown, number_of}
 use Rattle.hub_core.specs.Stood.{Each, has_id, room_in, rooms_in, serial_of}
 use Rattle.hub_core.proofs.EachLaws.{Each-first, Each-rest}
 use Rattle.hub_core.proofs.PlayLaws.{room_found}
-use Rattle.hub_core.proofs.PlayedLaws.{passes}
 
 -- ---- positions
 
@@ -72,15 +73,7 @@ position_none {X = X} p xs none = by_place (position p xs) refl
         let yes : p here.0 ≡ true = here.2 in
         absurd cc
 
--- found among what items are made into, and among those that pass a wider test
-find_through : {X Y : Type 0} (p : Y → Bool) (f : X → Y) (xs : List X) → find p (map f xs) ≡ option_map f (find (λ x. p (f x)) xs)
-find_through p f [] = refl
-find_through {X = X} p f (x ∷ xs) = by_first (p (f x)) (find_through p f xs)
-  where
-    by_first : (b : Bool) → find p (map f xs) ≡ option_map f (find (λ x. p (f x)) xs) → cond b (Some (f x)) (find p (map f xs)) ≡ option_map f (cond b (Some x) (find (λ x. p (f x)) xs))
-    by_first true rest = refl
-    by_first false rest = rest
-
+-- found among those that pass a wider test
 find_within : {X : Type 0} (p q : X → Bool) (xs : List X) → ((x : X) → q x ≡ false → p x ≡ false) → find p (filter q xs) ≡ find p xs
 find_within p q [] wider = refl
 find_within {X = X} p q (x ∷ xs) wider = by_test (q x) refl (find_within p q xs wider)
@@ -95,7 +88,7 @@ module _ {R : Type 0} (room : R → RoomValue) (ss : List (Stood R)) where
 
   -- a room's listing, found among all
   listed : (p : Listing → Bool) → find p all ≡ option_map (λ (s : Stood R). listing_of (room_in room s)) (find (λ s. p (listing_of (room_in room s))) ss)
-  listed p = find_through p listing_of (rooms_in room ss) ∙ (ap (option_map listing_of) (find_through (λ r. p (listing_of r)) (room_in room) ss) ∙ twice (find (λ s. p (listing_of (room_in room s))) ss))
+  listed p = find-map p listing_of (rooms_in room ss) ∙ (ap (option_map listing_of) (find-map (λ r. p (listing_of r)) (room_in room) ss) ∙ twice (find (λ s. p (listing_of (room_in room s))) ss))
     where
       twice : (o : Option (Stood R)) → option_map listing_of (option_map (room_in room) o) ≡ option_map (λ (s : Stood R). listing_of (room_in room s)) o
       twice None = refl
@@ -180,7 +173,7 @@ module _ {R : Type 0} (room : R → RoomValue) (p : Parts R) (q : Request) where
     one = listed_alone (room_in room s) ∷ []
 
     own : bytes_eq s.id q.name ≡ true
-    own = passes (has_id q.name) ss s found
+    own = found_passes (has_id q.name) ss s found
 
     seen : slice_get (listings h) place.at ≡ Some (listing_of (room_in room s))
     seen = taken room ss place.at ∙ ap (option_map (λ (s : Stood R). listing_of (room_in room s))) place.there
@@ -260,10 +253,6 @@ module _ {R : Type 0} (room : R → RoomValue) (ss : List (Stood R)) (def count 
 
   wider : (s : Stood R) → is_of_def def s ≡ false → fits (listing_of (room_in room s)) ≡ false
   wider s other = ap (λ b. is_open (listing_of (room_in room s)) && (b && texts_eq s.criteria q.criteria)) other ∙ and_false (is_open (listing_of (room_in room s)))
-    where
-      and_false : (b : Bool) → (b && false) ≡ false
-      and_false true = refl
-      and_false false = refl
 
   same_found : find (λ s. fits (listing_of (room_in room s))) fs ≡ find (λ s. fits (listing_of (room_in room s))) ss
   same_found = find_within (λ s. fits (listing_of (room_in room s))) (is_of_def def) ss wider

@@ -1,5 +1,5 @@
 -- Openings, as a hub's step has them.
-use Rattle.std.proofs.Common.{◌≡◌, ℕ, ◌&&◌, ◌++◌, Bool, true, false, not, List, [], ◌∷◌, Option, Some, None, Result, Ok, Err, OnOk, filter, map, refl, sym, ap, ap₂, subst, ◌∙◌, cond}
+use Rattle.std.proofs.Common.{◌≡◌, ℕ, ◌&&◌, ◌++◌, Bool, true, false, not, List, [], ◌∷◌, Option, Some, None, Result, Ok, Err, OnOk, filter, map, refl, sym, ap, ap₂, subst, ◌∙◌, cond, append-nil}
 use Rattle.std.specs.Prelude.{codes, is_some, IsSome}
 use Rattle.std.specs.List.{find, flat_map}
 use Rattle.std.specs.Option.{option_and_then, option_map}
@@ -47,11 +47,7 @@ module _ (rules : Rules) (h : HubValue) (conn : ℕ) (target fresh : List ℕ) w
   -- one that gets no further
   idle_opening : opened_by h conn target ≡ None → filter is_needed h.rooms ≡ h.rooms → filter (λ r. not (is_needed r)) h.rooms ≡ [] → hub_step rules h e ≡ (h, opening_refused h conn target)
   idle_opening none stay gone =
-      idle_step rules h e (λ r. ap (event_of_opening r fresh) none) refl stay gone (ap (entered_conns h.conns conn (idle rules.step h.rooms)) none) ∙ ap (λ l. (h, l)) (append_none (opening_refused h conn target))
-    where
-      append_none : (l : List HubOut) → l ++ [] ≡ l
-      append_none [] = refl
-      append_none (x ∷ l) = ap (λ m. x ∷ m) (append_none l)
+      idle_step rules h e (λ r. ap (event_of_opening r fresh) none) refl stay gone (ap (entered_conns h.conns conn (idle rules.step h.rooms)) none) ∙ ap (λ l. (h, l)) (append-nil (opening_refused h conn target))
 
   pub used_step : (c : HubConn) → conn_of h conn ≡ Some c → filter is_needed h.rooms ≡ h.rooms → filter (λ r. not (is_needed r)) h.rooms ≡ [] → hub_step rules h e ≡ (h, out.Refused refusal.ConnInUse ∷ [])
   used_step c is stay gone = idle_opening (used_opens h conn target c is) stay gone ∙ ap (λ l. (h, l)) (refusal_of h conn target true (is_some (opening_of h target)) (ap is_some is) refl)

@@ -17,6 +17,7 @@ use Rattle.hub_model.specs.Dealt as dealt
 use Rattle.hub_model.specs.Dealt.{Dealt, RoomStep, told_out, with_room}
 use Rattle.hub_model.specs.HubStep.{disposals, is_needed, unknown_room}
 use Rattle.hub_model.specs.HubValues.{HubRoom, is_named}
+use Rattle.hub_laws.proofs.Different.{found_passes}
 use Rattle.hub_core.specs.declared.parts.Parts.{Parts}
 use Rattle.hub_core.specs.declared.registry.Registry.{Registry}
 use Rattle.hub_core.specs.declared.stood.Stood.{Stood}
@@ -29,7 +30,6 @@ use Rattle.hub_core.specs.Registered.{IsKept}
 use Rattle.hub_core.specs.Stood.{AreOrdered, IsStepped, has_id, room_in, rooms_in, serial_of}
 use Rattle.hub_core.proofs.EachLaws.{of_there, found_number}
 use Rattle.hub_core.proofs.PlayedLaws as played
-use Rattle.hub_core.proofs.PlayedLaws.{passes}
 use Rattle.hub_core.proofs.RegisteredLaws.{Step, stepped_found}
 use Rattle.hub_core.proofs.StandsLaws.{remove-put, stands_left}
 use Rattle.hub_core.proofs.TurnLaws.{all_others, others_needed}
@@ -51,8 +51,8 @@ found_serial {R = R} ss id n ordered h = by_found (find (has_id id) ss) refl h
         let number : s.serial ≡ n = cc in
         record { it = s; is = is; number = number; at = subst (λ k. find_by serial_of k ss ≡ Some s) number (found_number (has_id id) 0 ss s ordered.0 is) }
 
-pub found_passes : {R : Type 0} {ss : List (Stood R)} {id : List ℕ} {n : ℕ} (f : Found ss id n) → bytes_eq f.it.id id ≡ true
-found_passes {ss = ss} {id} f = passes (has_id id) ss f.it f.is
+pub found_named : {R : Type 0} {ss : List (Stood R)} {id : List ℕ} {n : ℕ} (f : Found ss id n) → bytes_eq f.it.id id ≡ true
+found_named {ss = ss} {id} f = found_passes (has_id id) ss f.it f.is
 
 pub some_found : {R : Type 0} (ss : List (Stood R)) (id : List ℕ) (n : ℕ) → Found ss id n → IsSome (find_by serial_of n ss)
 some_found ss id n f = ap is_some f.at

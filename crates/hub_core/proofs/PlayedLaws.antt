@@ -1,7 +1,7 @@
 -- A hub behind one event of the room of an id.
 use Rattle.std.proofs.Common.{◌≡◌, ℕ, Bool, true, false, List, [], ◌∷◌, Some, None, filter, map, refl, ap, subst, ◌∙◌, arith, cond}
 use Rattle.std.specs.Prelude.{if◌then◌else◌}
-use Rattle.std.specs.List.{find, flat_map, list_any}
+use Rattle.std.specs.List.{find, flat_map, list_all, list_any}
 use Rattle.std.specs.Str.{bytes_eq}
 use Rattle.std.proofs.lemmas.Bool.Decides.{nat_tests}
 use Rattle.lists.specs.Rising.{find as find_by, put, remove}
@@ -14,6 +14,9 @@ use Rattle.hub_model.specs.declared.event.HubOut.{HubOut}
 use Rattle.hub_model.specs.HubValues.{HubRoom, is_named}
 use Rattle.hub_model.specs.HubStep.{disposals, event_if, is_needed}
 use Rattle.hub_model.specs.Dealt.{Dealt, RoomStep, conns_left, dealt, with_room}
+use Rattle.hub_laws.proofs.Different.{found_passes, found_in}
+use Rattle.std.proofs.lemmas.List.Elements.{All-contains}
+use Rattle.std.proofs.lemmas.List.Sums.{AllPass-from_list_all}
 use Rattle.hub_core.specs.declared.stood.Stood.{Stood}
 use Rattle.hub_core.specs.Endings.{ended_by, without_all}
 use Rattle.hub_core.specs.Hubs.{IsNeeded}
@@ -26,13 +29,9 @@ use Rattle.hub_core.proofs.SteppedLaws.{needed_but}
 
 -- ---- the room of an id alone has the event
 
-pub passes : {X : Type 0} (p : X → Bool) (xs : List X) (x : X) → find p xs ≡ Some x → p x ≡ true
-passes p [] x is = absurd cc
-passes {X = X} p (y ∷ ys) x is = by_first (p y) refl is (λ found. passes p ys x found)
-  where
-    by_first : (b : Bool) → p y ≡ b → cond b (Some y) (find p ys) ≡ Some x → (find p ys ≡ Some x → p x ≡ true) → p x ≡ true
-    by_first true here found rest = (let one : y ≡ x = cc in subst (λ z. p z ≡ true) one here)
-    by_first false other found rest = rest found
+-- what holds of all holds of the one that is found
+pub all_found : {X : Type 0} (q p : X → Bool) (xs : List X) (x : X) → list_all q xs ≡ true → find p xs ≡ Some x → (q x ≡ true) × (p x ≡ true)
+all_found q p xs x all found = (All-contains (λ y. q y ≡ true) xs x (AllPass-from_list_all q xs all) (found_in p xs x found), found_passes p xs x found)
 
 module _ {R : Type 0} (room : R → RoomValue) (happens : RoomStep) (id : List ℕ) (ev : RoomEvent) where
   abbrev pub own_events : HubRoom → List RoomEvent
@@ -61,7 +60,7 @@ module _ {R : Type 0} (room : R → RoomValue) (happens : RoomStep) (id : List �
 
   module _ (s : Stood R) (ss : List (Stood R)) (ordered : AreOrdered ss) (found : find (has_id id) ss ≡ Some s) where
     pub name_is : s.id ≡ id
-    name_is = same_bytes s.id id (passes (has_id id) ss s found)
+    name_is = same_bytes s.id id (found_passes (has_id id) ss s found)
 
     pub number_is : find_by serial_of s.serial ss ≡ Some s
     number_is = found_number (has_id id) 0 ss s ordered.0 found
@@ -70,7 +69,7 @@ module _ {R : Type 0} (room : R → RoomValue) (happens : RoomStep) (id : List �
     quiet = one_named ss s ordered.1 found
 
     own : own_events (room_in room s) ≡ ev ∷ []
-    own = ap (λ b. event_if b ev) (passes (has_id id) ss s found)
+    own = ap (λ b. event_if b ev) (found_passes (has_id id) ss s found)
 
     abbrev outs : List RoomOut
     outs = (happens (room s.room) ev).1

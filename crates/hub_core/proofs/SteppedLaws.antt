@@ -16,6 +16,7 @@ use Rattle.hub_model.specs.declared.event.HubOut.TheVariants as out
 use Rattle.hub_model.specs.HubValues.{HubRoom}
 use Rattle.hub_model.specs.HubStep.{disposals, is_needed}
 use Rattle.hub_model.specs.Dealt.{Dealt, RoomStep, conns_left, dealt, ends, with_room}
+use Rattle.hub_core.proofs.IdleLaws.{and_false}
 use Rattle.hub_core.specs.declared.stood.Stood.{Stood}
 use Rattle.hub_core.specs.Endings.{ended_by, is_of, without_all}
 use Rattle.hub_core.specs.Hubs.{IsNeeded}
@@ -37,10 +38,6 @@ abbrev pub disposed : HubRoom → HubOut
 disposed r = out.Disposed r.id
 
 -- ---- connections that outputs end
-
-and_false : (b : Bool) → (b && false) ≡ false
-and_false true = refl
-and_false false = refl
 
 ended_by_one : (id : List ℕ) (o : RoomOut) (rest : List (List ℕ)) (b : Bool) → b ≡ list_any (bytes_eq id) rest → (is_end id o || b) ≡ list_any (bytes_eq id) (ended_by o ++ rest)
 ended_by_one id (room_out.Send s bytes) rest b h = h

@@ -1,30 +1,26 @@
 -- A hub behind an event of a room that it doesn't have: nothing happens.
-use Rattle.std.proofs.Common.{◌≡◌, ℕ, suc, ◌++◌, ◌&&◌, Bool, true, false, not, List, [], ◌∷◌, Option, Some, None, filter, map, refl, sym, ap, ap₂, ◌∙◌, cond}
+use Rattle.std.proofs.Common.{◌≡◌, ℕ, suc, ◌++◌, Bool, true, false, not, List, [], ◌∷◌, Option, Some, None, filter, map, refl, sym, ap, ap₂, ◌∙◌, cond}
 use Rattle.std.specs.Prelude.{is_some}
-use Rattle.std.specs.List.{find, flat_map, list_any}
+use Rattle.std.specs.List.{find, flat_map}
 use Rattle.std.specs.Option.{option_map}
 use Rattle.std.specs.Str.{bytes_eq}
 use Rattle.lists.specs.Rising.{RisesFrom}
 use Rattle.room_model.specs.declared.event.RoomEvent.{RoomEvent}
 use Rattle.room_model.specs.declared.refusal.Refusal.TheVariants as refusal
 use Rattle.room_model.specs.Room.{RoomValue}
-use Rattle.hub_model.specs.declared.conn.HubConn.{HubConn}
 use Rattle.hub_model.specs.declared.event.HubOut.{HubOut}
 use Rattle.hub_model.specs.declared.event.HubOut.TheVariants as out
 use Rattle.hub_model.specs.HubValues.{HubRoom}
 use Rattle.hub_model.specs.HubStep.{disposals, event_if, is_needed, unknown_room}
-use Rattle.hub_model.specs.Dealt.{Dealt, RoomStep, conns_left, dealt, ends, told_out}
+use Rattle.hub_model.specs.Dealt.{Dealt, RoomStep, conns_left, dealt, told_out}
 use Rattle.hub_core.specs.declared.parts.Parts.{Parts}
 use Rattle.hub_core.specs.declared.stood.Stood.{Stood}
 use Rattle.hub_core.specs.Hubs.{Stands, hub_of}
 use Rattle.hub_core.specs.Played.{dealt_in, played_in}
 use Rattle.hub_core.specs.Stood.{AreOrdered, Each, has_id, room_in, rooms_in, serial_of}
 use Rattle.hub_core.proofs.EachLaws.{Each-first, Each-rest}
+use Rattle.hub_core.proofs.IdleLaws.{idle, idle_conns, idle_given, idle_rooms}
 use Rattle.hub_core.proofs.PlayLaws.{room_found}
-
-and_false : (b : Bool) → (b && false) ≡ false
-and_false true = refl
-and_false false = refl
 
 -- all rooms are needed
 pub all_stay : {R : Type 0} (room : R → RoomValue) (low : ℕ) (ss : List (Stood R)) → RisesFrom serial_of low ss → Each (λ s. is_needed (room_in room s) ≡ true) ss → filter is_needed (rooms_in room ss) ≡ rooms_in room ss
@@ -38,35 +34,14 @@ none_go room low (x ∷ ss) rises needed =
     rw (Each-first (λ s. is_needed (room_in room s) ≡ true) x ss needed) (none_go room (suc x.serial) ss rises.1 (Each-rest (λ s. is_needed (room_in room s) ≡ true) low x ss rises needed))
 
 module _ {R : Type 0} (room : R → RoomValue) (happens : RoomStep) (id : List ℕ) (ev : RoomEvent) where
-  none_given : {X : Type 0} (f : Dealt → List X) → ((r : HubRoom) → f (dealt happens r []) ≡ []) → (ss : List (Stood R)) → find (has_id id) ss ≡ None → flat_map f (dealt_in happens (rooms_in room ss) id ev) ≡ []
-  none_given f silent [] none = refl
-  none_given {X} f silent (x ∷ ss) none = by_first (bytes_eq x.id id) none (λ rest. none_given f silent ss rest)
+  none_dealt : (ss : List (Stood R)) → find (has_id id) ss ≡ None → dealt_in happens (rooms_in room ss) id ev ≡ idle happens (rooms_in room ss)
+  none_dealt [] none = refl
+  none_dealt (x ∷ ss) none = by_first (bytes_eq x.id id) none (λ rest. none_dealt ss rest)
     where
-      by_first : (b : Bool) → cond b (Some x) (find (has_id id) ss) ≡ None → (find (has_id id) ss ≡ None → flat_map f (dealt_in happens (rooms_in room ss) id ev) ≡ []) → f (dealt happens (room_in room x) (event_if b ev)) ++ flat_map f (dealt_in happens (rooms_in room ss) id ev) ≡ []
+      by_first : (b : Bool) → cond b (Some x) (find (has_id id) ss) ≡ None → (find (has_id id) ss ≡ None → dealt_in happens (rooms_in room ss) id ev ≡ idle happens (rooms_in room ss))
+          → dealt happens (room_in room x) (event_if b ev) ∷ dealt_in happens (rooms_in room ss) id ev ≡ idle happens (rooms_in room (x ∷ ss))
       by_first true is rest = absurd cc
-      by_first false is rest = ap₂ (λ a b. a ++ b) (silent (room_in room x)) (rest is)
-
-  none_rooms : (ss : List (Stood R)) → find (has_id id) ss ≡ None → map (λ (d : Dealt). d.room) (dealt_in happens (rooms_in room ss) id ev) ≡ rooms_in room ss
-  none_rooms [] none = refl
-  none_rooms (x ∷ ss) none = by_first (bytes_eq x.id id) none (λ rest. none_rooms ss rest)
-    where
-      by_first : (b : Bool) → cond b (Some x) (find (has_id id) ss) ≡ None → (find (has_id id) ss ≡ None → map (λ (d : Dealt). d.room) (dealt_in happens (rooms_in room ss) id ev) ≡ rooms_in room ss)
-          → (dealt happens (room_in room x) (event_if b ev)).room ∷ map (λ (d : Dealt). d.room) (dealt_in happens (rooms_in room ss) id ev) ≡ rooms_in room (x ∷ ss)
-      by_first true is rest = absurd cc
-      by_first false is rest = ap (λ l. room_in room x ∷ l) (rest is)
-
-  none_any : (p : Dealt → Bool) → ((r : HubRoom) → p (dealt happens r []) ≡ false) → (ss : List (Stood R)) → find (has_id id) ss ≡ None → list_any p (dealt_in happens (rooms_in room ss) id ev) ≡ false
-  none_any p silent [] none = refl
-  none_any p silent (x ∷ ss) none = by_first (bytes_eq x.id id) none (λ rest. none_any p silent ss rest)
-    where
-      by_first : (b : Bool) → cond b (Some x) (find (has_id id) ss) ≡ None → (find (has_id id) ss ≡ None → list_any p (dealt_in happens (rooms_in room ss) id ev) ≡ false)
-          → list_any p (dealt happens (room_in room x) (event_if b ev) ∷ dealt_in happens (rooms_in room ss) id ev) ≡ false
-      by_first true is rest = absurd cc
-      by_first false is rest = rw (silent (room_in room x)) (rest is)
-
-  none_ended : (ss : List (Stood R)) → find (has_id id) ss ≡ None → (cs : List HubConn) → conns_left (dealt_in happens (rooms_in room ss) id ev) cs ≡ cs
-  none_ended ss none [] = refl
-  none_ended ss none (c ∷ cs) = rw (none_any (ends c) (λ r. and_false (bytes_eq r.id c.room)) ss none) (ap (λ l. c ∷ l) (none_ended ss none cs))
+      by_first false is rest = ap (λ l. dealt happens (room_in room x) [] ∷ l) (rest is)
 
   module _ (Holds : RoomValue → Type 0) (old : Parts R) (stood : Stands room Holds old) (ordered : AreOrdered old.registry.rooms) (none : None ≡ option_map serial_of (find (has_id id) old.registry.rooms)) where
     missing : find (has_id id) old.registry.rooms ≡ None
@@ -76,16 +51,21 @@ module _ {R : Type 0} (room : R → RoomValue) (happens : RoomStep) (id : List �
         by_found None is = refl
         by_found (Some s) is = absurd cc
 
+    quiet : dealt_in happens (rooms_in room old.registry.rooms) id ev ≡ idle happens (rooms_in room old.registry.rooms)
+    quiet = none_dealt old.registry.rooms missing
+
     pub none_hub : hub_of room old ≡ (played_in happens (hub_of room old) id ev).0
     none_hub =
-        let rooms = none_rooms old.registry.rooms missing in
+        let rooms = ap (map (λ (d : Dealt). d.room)) quiet ∙ idle_rooms happens (rooms_in room old.registry.rooms) in
         let stay = all_stay room 0 old.registry.rooms ordered.0 stood.needed in
-        let conns = none_ended old.registry.rooms missing old.conns in
+        let conns = ap (λ ds. conns_left ds old.conns) quiet ∙ idle_conns happens (rooms_in room old.registry.rooms) old.conns in
         ap₂ (λ rs cs. record { now = old.moment; schema = old.schema; process = old.process; defs = old.defs; rooms = rs; conns = cs }) (sym (ap (filter is_needed) rooms ∙ stay)) (sym conns)
 
     pub none_told : (before behind_it : List HubOut) → behind_it ≡ before ++ out.Refused refusal.NoRoom ∷ [] → behind_it ≡ before ++ (played_in happens (hub_of room old) id ev).1
     none_told before behind_it h =
         let unknown : unknown_room (hub_of room old) id ≡ out.Refused refusal.NoRoom ∷ [] = ap (λ o. cond (is_some o) [] (out.Refused refusal.NoRoom ∷ [])) (room_found room id old.registry.rooms ∙ ap (option_map (room_in room)) missing) in
-        let given : flat_map (λ (d : Dealt). flat_map (told_out old.conns d.room.id) d.outs) (dealt_in happens (rooms_in room old.registry.rooms) id ev) ≡ [] = none_given (λ d. flat_map (told_out old.conns d.room.id) d.outs) (λ r. refl) old.registry.rooms missing in
-        let gone : disposals (map (λ (d : Dealt). d.room) (dealt_in happens (rooms_in room old.registry.rooms) id ev)) ≡ [] = ap disposals (none_rooms old.registry.rooms missing) ∙ ap (map (λ (r : HubRoom). out.Disposed r.id)) (none_go room 0 old.registry.rooms ordered.0 stood.needed) in
+        let given : flat_map (λ (d : Dealt). flat_map (told_out old.conns d.room.id) d.outs) (dealt_in happens (rooms_in room old.registry.rooms) id ev) ≡ [] =
+        ap (flat_map (λ (d : Dealt). flat_map (told_out old.conns d.room.id) d.outs)) quiet ∙ idle_given happens (λ (d : Dealt). flat_map (told_out old.conns d.room.id) d.outs) (λ r. refl) (rooms_in room old.registry.rooms) in
+        let gone : disposals (map (λ (d : Dealt). d.room) (dealt_in happens (rooms_in room old.registry.rooms) id ev)) ≡ [] =
+        ap (λ ds. disposals (map (λ (d : Dealt). d.room) ds)) quiet ∙ (ap disposals (idle_rooms happens (rooms_in room old.registry.rooms)) ∙ ap (map (λ (r : HubRoom). out.Disposed r.id)) (none_go room 0 old.registry.rooms ordered.0 stood.needed)) in
         h ∙ ap (λ l. before ++ l) (sym (ap₂ (λ u x. u ++ x) unknown (ap₂ (λ x y. x ++ y) given gone)))

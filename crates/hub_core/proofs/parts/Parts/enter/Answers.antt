@@ -18,7 +18,7 @@ use Rattle.hub_core.proofs.EachLaws.{of_there}
 use Rattle.hub_core.proofs.EnterLaws as enter
 use Rattle.hub_core.proofs.EnterLaws.{may_enter}
 use Rattle.hub_core.proofs.PlayLaws as play
-use Rattle.hub_core.proofs.PlayLaws.{found_passes, found_serial, some_found}
+use Rattle.hub_core.proofs.PlayLaws.{found_named, found_serial, some_found}
 use Rattle.hub_core.proofs.RoomLaws.{both_ok, one_ok}
 use Rattle.hub_core.proofs.parts.Parts.enter.Given.{Over}
 use Rattle.hub_core.proofs.parts.Parts.enter.Goals as goal
@@ -53,7 +53,7 @@ ended_by_it g c =
     let ordered = c.in-Some.ensures.ordered in
     let f = found_serial old.registry.rooms c.args.opening.now.room c.in-Some.serial ordered c.in-Some.ensures.value in
     ended_all g c
-    ∙ ap₂ (λ k o. without_all k (flat_map ended_by o) (with_newcomer g c)) (sym (same_bytes f.it.id c.args.opening.now.room (found_passes f)))
+    ∙ ap₂ (λ k o. without_all k (flat_map ended_by o) (with_newcomer g c)) (sym (same_bytes f.it.id c.args.opening.now.room (found_named f)))
     (of_there (find_by serial_of c.in-Some.serial old.registry.rooms) f.it (λ s. c.in_ok-outs.outs ≡ (g.R.RoomLike.happens (g.R.RoomLike.room s.room) (event.Enter c.args.opening.now.session c.args.opening.now.token c.args.fresh)).1) f.at c.in_ok-outs.ensures.outs)
 
 pub returns-clause-hub : goal.returns-clause-hub
