@@ -1,5 +1,5 @@
 //! The hub.
-ghost use Rattle.std.specs.Prelude.{◌≡◌, true, false, Some, is_some, option_map, slice_get, IfOk, IfSome, IsErr, IsTrue, OnErr, OnOk};
+ghost use Rattle.std.specs.Prelude.{◌≡◌, ◌-◌, ◌^◌, length, nat_lt, true, false, Some, is_some, option_map, slice_get, IfOk, IfSome, IsErr, IsTrue, OnErr, OnOk};
 ghost use Rattle.hub_model.specs.HubStep.{hub_step};
 ghost use Rattle.hub_model.specs.HubValues.{new_hub, room_of};
 ghost use Rattle.hub_model.specs.Ids.{is_id};
@@ -10,6 +10,7 @@ ghost use Rattle.hub_core.specs.Takes.{Takes, rules_of};
 use crate::parts::Parts;
 use hub_model::{HubEvent, HubOuts};
 use lists::{Memory, Seq};
+use matchmaker::is_id;
 use room_like::RoomLike;
 use room_model::{Act, Defs};
 use schema_model::{Id, Schema};
@@ -18,6 +19,9 @@ use std::alloc::Global;
 use std::marker::Model;
 use std::sync::ledger::Ledger;
 use steps::Steps;
+
+/// How many rooms a hub has at most.
+pub const MOST_ROOMS: u64 = (1 << 32) - 1;
 
 /// A hub of rooms, with its connections and its moment. After it answered want of memory it answers it for good.
 #[derive(Drop)]
@@ -53,9 +57,30 @@ impl<R: RoomLike> Hub<R> {
         })
     }
 
-    /// The hub's step, and what it gives. Unless the hub is spent, the ids that come with a request and with an opening were
-    /// drawn of the characters of ids, there are fewer than 2^32 - 1 rooms at a request, and an act is within the limits. Any
-    /// event may come to a spent hub. Where it answers `Memory` the hub is spent.
+    /// Whether an event may come now: then `step` takes it. The ids that come with a request and with an opening were drawn of
+    /// the characters of ids, there are fewer than `MOST_ROOMS` rooms at a request, and an act is within the limits.
+    pub fn takes(&self, event: &HubEvent) -> bool
+        ensures { result ≡ may_take self.now.hub event.now }
+    {
+        match event {
+            HubEvent::Ask { room, session, .. } => {
+                self.has_room_left() && is_id(*room) && is_id(*session)
+            }
+            HubEvent::Opening { fresh, .. } => is_id(*fresh),
+            HubEvent::Act { act, .. } => act.is_within_limits(),
+            _ => true,
+        }
+    }
+
+    // There are fewer rooms than a hub has at most.
+    fn has_room_left(&self) -> bool
+        ensures { result ≡ nat_lt (length self.now.hub.rooms) (2 ^ 32 - 1) }
+    {
+        (self.parts.registry.rooms.len() as u64) < MOST_ROOMS
+    }
+
+    /// The hub's step, and what it gives. Unless the hub is spent, it is an event that the hub takes; any event may come to a
+    /// spent one. Where it answers `Memory` the hub is spent.
     pub fn step<L: Ledger>(
         &mut self,
         event: &HubEvent,

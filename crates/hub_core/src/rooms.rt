@@ -1,5 +1,5 @@
 //! The rooms of a hub.
-ghost use Rattle.std.specs.Prelude.{◌≡◌, ◌+◌, ◌≤◌, ◌++◌, ◌∷◌, ◌<◌, ◌^◌, [], None, option_copied, option_map, slice_get, IfOk, OnOk, IfSome, IsSome, IsTrue, false};
+ghost use Rattle.std.specs.Prelude.{◌≡◌, ◌+◌, ◌≤◌, ◌++◌, ◌∷◌, ◌<◌, ◌^◌, [], None, length, option_copied, option_map, slice_get, IfOk, OnOk, IfSome, IsSome, IsTrue, false};
 ghost use Rattle.std.specs.List.{find, list_any};
 ghost use Rattle.lists.specs.Rising.{IsAbove, find as find_by, remove};
 ghost use Rattle.room_laws.specs.Places.{may_happen};
@@ -55,6 +55,13 @@ impl<R> Rooms<R> {
         ensures { AreOrdered self.now }
     {
         let _next = self.next;
+    }
+
+    /// How many there are.
+    pub fn len(&self) -> usize
+        ensures { result ≡ length self.now }
+    {
+        self.by_serial.len()
     }
 
     /// The number of the room of an id.

@@ -1,5 +1,4 @@
 pub mod Replies
-pub mod Hub
 pub mod Ids
 pub mod Requests
 pub mod Decisions

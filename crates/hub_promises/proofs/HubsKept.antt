@@ -15,7 +15,7 @@ use Rattle.hub_model.specs.declared.request.AskFault.{AskFault}
 use Rattle.hub_model.specs.declared.request.Request.{Request}
 use Rattle.hub_model.specs.HubValues.{HubRoom, is_named, room_of, new_hub}
 use Rattle.life_model.specs.Lives.{is_at, is_live_stage}
-use Rattle.life_model.specs.Promises.{latest_frames}
+use Rattle.life_model.specs.LatestFrames.{latest_frames}
 use Rattle.life_model.specs.Sent.{sent}
 use Rattle.life_model.specs.HubLives.{HubLife, HubRun, in_room, session_in, run_step, hub_run, is_live}
 use Rattle.life_model.specs.HubPromises.{rules_of, may_come, CanRun, HubKeeps, HubsKeep, HubsGiveEqualBytes}
@@ -87,5 +87,5 @@ hubs_keep read schema process defs events can n =
     })
 
 pub hubs_give_equal_bytes : HubsGiveEqualBytes
-hubs_give_equal_bytes read schema process other defs others events happened can may k l there here same =
-    (run_keeps read schema process defs events can).equal k there ∙ (ap (sent schema) same ∙ sym ((run_keeps read schema other others happened may).equal l here))
+hubs_give_equal_bytes read readen schema process other defs others events happened can may k l there here same =
+    (run_keeps read schema process defs events can).equal k there ∙ (ap (sent schema) same ∙ sym ((run_keeps readen schema other others happened may).equal l here))

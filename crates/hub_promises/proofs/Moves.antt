@@ -13,11 +13,12 @@ use Rattle.room_laws.specs.Places.{may_happen}
 use Rattle.room_like.specs.Worded.{is_worded_event}
 use Rattle.hub_model.specs.HubValues.{HubRoom}
 use Rattle.hub_model.specs.Dealt.{dealt}
-use Rattle.life_model.specs.Entries.{Entry, Sending}
+use Rattle.life_model.specs.Entries.{Entry, Asked, Sending}
+use Rattle.life_model.specs.Lives.{entry_if}
 use Rattle.life_model.specs.Sent.{Progress, after_entry, life_start, progress_of}
 use Rattle.life_model.specs.RoomLives as room_lives
 use Rattle.life_model.specs.RoomLives.{RoomLife, is_in, room_entries, given_by, view_after}
-use Rattle.life_model.specs.HubLives.{HubLife, in_room, new_life, dealt_entries, dealt_view, asked_if}
+use Rattle.life_model.specs.HubLives.{HubLife, in_room, new_life, dealt_entries, dealt_view}
 use Rattle.room_promises.proofs.GoodLives.{GoesOn, GoodLife}
 use Rattle.room_promises.proofs.RoomSteps.{GoodRoom, is_tick, step_good, tick_good}
 use Rattle.room_promises.proofs.RunSteps.{life_stepped, life_ticked, life_begun}
@@ -30,7 +31,7 @@ abbrev pub AreQuiet : Schema → List Entry → Type 0
 AreQuiet schema asked = (p : Progress) → fold (after_entry schema) p asked ≡ p
 
 -- as the answer to a request does
-pub asked_quiet : (schema : Schema) (test : Bool) (target body reply : List ℕ) → AreQuiet schema (asked_if test target body reply)
+pub asked_quiet : (schema : Schema) (test : Bool) (target body reply : List ℕ) → AreQuiet schema (entry_if test (Asked target body reply))
 asked_quiet schema true target body reply p = ap (λ os. let q : Progress = record { standing = p.standing; given = os } in q) (append-nil p.given)
 asked_quiet schema false target body reply p = refl
 

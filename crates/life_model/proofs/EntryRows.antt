@@ -1,7 +1,6 @@
--- Examples: what each event adds to a life's record and to what it is given, by hubs before and after it; worked out by hand.
+-- Examples: what each event of a room adds to a life's record and to what it is given, by rooms before and after it; worked out by hand.
 use Rattle.std.specs.Prelude.{◌≡◌, ℕ, Bool, true, false, List, [], ◌∷◌, ◌++◌, map, Option, Some, None, ℤ, pos, codes, refl}
-use Rattle.std.specs.List.{repeat}
-use Rattle.std.specs.Fmt.{digits}
+use Rattle.std.specs.List.{flat_map, repeat}
 use Rattle.schema_model.specs.Classes.{Schema}
 use Rattle.schema_model.specs.declared.class.FieldDecl.{FieldDecl}
 use Rattle.schema_model.specs.declared.class.Shape.TheVariants as shape
@@ -16,6 +15,10 @@ use Rattle.frame_model.specs.declared.frame.MsgKind.TheVariants.{Name, Num}
 use Rattle.room_model.specs.declared.definition.RoomDef.{RoomDef}
 use Rattle.room_model.specs.declared.event.Act.{Act}
 use Rattle.room_model.specs.declared.event.Act.TheVariants as act
+use Rattle.room_model.specs.declared.event.RoomEvent.{RoomEvent}
+use Rattle.room_model.specs.declared.event.RoomEvent.TheVariants as event
+use Rattle.room_model.specs.declared.event.RoomOut.{RoomOut}
+use Rattle.room_model.specs.declared.event.RoomOut.TheVariants as out
 use Rattle.room_model.specs.declared.event.Stage.{Stage}
 use Rattle.room_model.specs.declared.event.Stage.TheVariants as stage
 use Rattle.room_model.specs.declared.refusal.Refusal.TheVariants as refusal
@@ -23,15 +26,10 @@ use Rattle.room_model.specs.declared.seat.Seat.TheVariants as seat
 use Rattle.room_model.specs.Seats.{Seats, reserved_seat, seated}
 use Rattle.room_model.specs.Sessions.{Session}
 use Rattle.room_model.specs.Room.{RoomValue}
-use Rattle.hub_model.specs.declared.event.HubEvent.{HubEvent}
-use Rattle.hub_model.specs.declared.event.HubEvent.TheVariants as event
-use Rattle.hub_model.specs.declared.event.HubOut.{HubOut}
-use Rattle.hub_model.specs.declared.event.HubOut.TheVariants as out
-use Rattle.hub_model.specs.Hub.{HubValue, HubRoom, HubConn}
-use Rattle.life_model.specs.Entries.{Entry, Asked, Opened, Framed, Told, Ticked, Dropped, Kicked, Lapsed, Sending, Frame, Closing}
-use Rattle.life_model.specs.Lives.{Life, entries_of, outputs_of, lived, begun}
+use Rattle.life_model.specs.Entries.{Entry, Opened, Framed, Told, Ticked, Dropped, Kicked, Lapsed, Sending, Frame, Closing}
+use Rattle.life_model.specs.RoomLives.{RoomLife, room_entries, given_by, lived, begun}
 
--- ---- the hubs
+-- ---- the rooms
 
 -- one class of two numbers; the second is shown under the tag 1
 abbrev number_field : List ℕ → Option ℤ → FieldDecl
@@ -60,15 +58,9 @@ both_numbers n =
 abbrev duel : RoomDef
 duel = record { name = codes "duel"; max = 4; seat = 15000; patch = 50; keep = 0; filter = [] }
 
--- the life's room and session, and another room and session
-abbrev room : List ℕ
-room = codes "room00001"
-
+-- the life's session, and another one
 abbrev mine : List ℕ
 mine = codes "sess00001"
-
-abbrev other_room : List ℕ
-other_room = codes "room00002"
 
 abbrev other : List ℕ
 other = codes "sess00002"
@@ -123,110 +115,36 @@ room_with n seats sessions = record {
   sessions = sessions;
 }
 
--- connection 2 is the life's, where it is joining, due or live; 3 is the other session's; 4 is of a session with the
--- life's session id in the other room
-abbrev conn : ℕ → List ℕ → List ℕ → HubConn
-conn n room session = record { conn = n; room = room; session = session }
+-- with the life's session at a stage, and without it
+abbrev room_at : ℕ → Option Stage → RoomValue
+room_at n s = room_with n (seats_at s) (sessions_at s)
 
-abbrev other_conns : List HubConn
-other_conns = conn 3 room other ∷ conn 4 other_room mine ∷ []
+abbrev there : Stage → RoomValue
+there s = room_at 5 (Some s)
 
-abbrev conns_at : Option Stage → List HubConn
-conns_at (Some stage.Joining) = conn 2 room mine ∷ other_conns
-conns_at (Some stage.Due) = conn 2 room mine ∷ other_conns
-conns_at (Some stage.Live) = conn 2 room mine ∷ other_conns
-conns_at s = other_conns
-
--- the two rooms, with a number in the life's room, and there the life's session at a stage or without it
-abbrev rooms_at : ℕ → Option Stage → List HubRoom
-rooms_at n s =
-    record { id = other_room; room = room_with 1 my_seat (my_session stage.Live ∷ []) }
-    ∷ record { id = room; room = room_with n (seats_at s) (sessions_at s) } ∷ []
-
-abbrev hub_with : List HubRoom → List HubConn → HubValue
-hub_with rooms conns = record { now = 1000; process = codes "proc00001"; defs = duel ∷ []; rooms = rooms; conns = conns }
-
-abbrev hub_at : ℕ → Option Stage → HubValue
-hub_at n s = hub_with (rooms_at n s) (conns_at s)
-
-abbrev there : Stage → HubValue
-there s = hub_at 5 (Some s)
-
-abbrev gone : HubValue
-gone = hub_at 5 None
-
--- without any room
-abbrev no_rooms : HubValue
-no_rooms = hub_with [] []
+abbrev gone : RoomValue
+gone = room_at 5 None
 
 abbrev stages : List Stage
 stages = stage.Reserved ∷ stage.Joining ∷ stage.Due ∷ stage.Live ∷ stage.Kept ∷ []
 
 -- ---- what an event adds to the record
 
-abbrev entries : HubValue → HubEvent → HubValue → List Entry
-entries before e after = entries_of before e after [] room mine
+abbrev entries : RoomValue → RoomEvent → RoomValue → List Entry
+entries before e after = room_entries before e after mine
 
 -- at each stage, where the session stays at it
-abbrev at_each : HubEvent → List (List Entry)
+abbrev at_each : RoomEvent → List (List Entry)
 at_each e = map (λ s. entries (there s) e (there s)) stages
 
 -- no entry at any stage
 abbrev none : List (List Entry)
 none = repeat 5 ([] ∷ [])
 
--- ---- a request
-
-abbrev target : List ℕ
-target = codes "/matchmake/joinOrCreate/duel"
-
-abbrev ask : HubEvent
-ask = event.Ask 1 target (codes "{}") (codes "room00009") mine
-
--- the reply with so many clients, a room and a session
-abbrev reply : List ℕ → List ℕ → List ℕ → List ℕ
-reply clients id session =
-    codes "{\"room\":{\"clients\":" ++ (clients ++ (codes ",\"maxClients\":4,\"name\":\"duel\",\"processId\":\"proc00001\",\"roomId\":\""
-    ++ (id ++ (codes "\"},\"sessionId\":\"" ++ (session ++ codes "\"}")))))
-
-abbrev my_reply : List ℕ
-my_reply = reply (codes "2") room mine
-
--- the entries for a request after which the session has a reservation, by what the hub gives
-abbrev asked : List HubOut → List Entry
-asked outs = entries_of gone ask (there stage.Reserved) outs room mine
-
--- a request is answered with the session, alone or among other outputs
-answered : map asked ((out.Reply 1 my_reply ∷ []) ∷ (out.Created room (codes "duel") ∷ out.Reply 1 my_reply ∷ []) ∷ [])
-    ≡ repeat 2 ((Asked target (codes "{}") my_reply ∷ []) ∷ [])
-unfolding digits
-answered = refl
-
--- another connection's reply
-another_is_answered : asked (out.Reply 7 my_reply ∷ []) ≡ []
-unfolding digits
-another_is_answered = refl
-
--- a reply for another session, for another room, with other places in use
-another_reply : map (λ t. asked (out.Reply 1 t ∷ []))
-    (reply (codes "2") room other ∷ reply (codes "2") other_room mine ∷ reply (codes "1") room mine ∷ [])
-    ≡ repeat 3 ([] ∷ [])
-unfolding digits
-another_reply = refl
-
--- what is no reply, and nothing
-unanswered : map asked ((out.Send 1 my_reply ∷ []) ∷ (out.Created room (codes "duel") ∷ []) ∷ [] ∷ []) ≡ repeat 3 ([] ∷ [])
-unfolding digits
-unanswered = refl
-
--- a reply where the room isn't there
-no_room_for_a_reply : entries_of no_rooms ask no_rooms (out.Reply 1 my_reply ∷ []) room mine ≡ []
-no_room_for_a_reply = refl
-
 -- ---- an opening
 
-abbrev opening : HubEvent
-opening = event.Opening 2 (codes "/proc00001/room00001?sessionId=sess00001") (codes "token0003")
+abbrev opening : RoomEvent
+opening = event.Enter mine None (codes "token0003")
 
 -- an opening that gives the session a connection, by its reservation or its kept seat
 opened : map (λ s. entries (there s) opening (there stage.Joining)) (stage.Reserved ∷ stage.Kept ∷ [])
@@ -237,31 +155,28 @@ opened = refl
 unopened : at_each opening ++ entries gone opening gone ∷ [] ≡ repeat 6 ([] ∷ [])
 unopened = refl
 
--- one that gives another session its connection, in the room or with the same id in the other room
-abbrev reserved_with : List HubConn → HubValue
-reserved_with conns = hub_with (rooms_at 5 (Some stage.Reserved)) conns
-
-another_is_opened : map (λ c. entries (reserved_with []) opening (reserved_with (c ∷ []))) other_conns ≡ repeat 2 ([] ∷ [])
+-- one that lets another session in
+another_is_opened : map (λ s. entries (there s) (event.Enter other None (codes "token0003")) (there s)) stages ≡ none
 another_is_opened = refl
 
 -- ---- a frame
 
 -- a frame of its own connection, where it has one
-framed : at_each (event.Frame 2 (12 ∷ [])) ≡ [] ∷ (Framed (12 ∷ []) ∷ []) ∷ (Framed (12 ∷ []) ∷ []) ∷ (Framed (12 ∷ []) ∷ []) ∷ [] ∷ []
+framed : at_each (event.Frame mine (12 ∷ [])) ≡ [] ∷ (Framed (12 ∷ []) ∷ []) ∷ (Framed (12 ∷ []) ∷ []) ∷ (Framed (12 ∷ []) ∷ []) ∷ [] ∷ []
 framed = refl
 
 -- a frame that ends it
-last_frame : entries (there stage.Live) (event.Frame 2 (12 ∷ [])) gone ≡ Framed (12 ∷ []) ∷ []
+last_frame : entries (there stage.Live) (event.Frame mine (12 ∷ [])) gone ≡ Framed (12 ∷ []) ∷ []
 last_frame = refl
 
--- a frame of the other session's connection, of the same session id in the other room, of no session
-another_is_framed : map (λ n. at_each (event.Frame n (12 ∷ []))) (3 ∷ 4 ∷ 5 ∷ []) ≡ repeat 3 (none ∷ [])
+-- a frame of the other session
+another_is_framed : at_each (event.Frame other (12 ∷ [])) ≡ none
 another_is_framed = refl
 
 -- ---- a message of the room
 
-abbrev do_act : Act → HubEvent
-do_act a = event.Act room a
+abbrev do_act : Act → RoomEvent
+do_act a = event.Act a
 
 -- an entry for the session while it is joining, due or live
 abbrev while_open : Entry → List (List Entry)
@@ -290,10 +205,6 @@ another_is_told = refl
 abbrev messages : List Act
 messages = act.Send mine (Num (pos 5)) [] ∷ act.Raw mine (Num (pos 5)) [] ∷ act.ToAll (Num (pos 5)) [] ∷ []
 
--- messages of the other room
-another_room_tells : map (λ a. at_each (event.Act other_room a)) messages ≡ repeat 3 (none ∷ [])
-another_room_tells = refl
-
 -- the stage before the act counts
 told_before : map (λ a. entries (there stage.Live) (do_act a) gone) messages
     ++ map (λ a. entries (there stage.Reserved) (do_act a) (there stage.Live)) messages
@@ -311,27 +222,20 @@ abbrev ticked_stage : Stage → Stage
 ticked_stage stage.Due = stage.Live
 ticked_stage s = s
 
--- a tick of a room, after which the number is 6
-abbrev tick_of : List ℕ → List (List Entry)
-tick_of id = map (λ s. entries (there s) (event.Tick id) (hub_at 6 (Some (ticked_stage s)))) stages
-
 -- a tick is seen while the session is due or live, with the shared rows and its own after it
-ticked : tick_of room ≡ [] ∷ [] ∷ (Ticked (one_number 6) (both_numbers 6) ∷ []) ∷ (Ticked (one_number 6) (both_numbers 6) ∷ []) ∷ [] ∷ []
+ticked : map (λ s. entries (there s) event.Tick (room_at 6 (Some (ticked_stage s)))) stages
+    ≡ [] ∷ [] ∷ (Ticked (one_number 6) (both_numbers 6) ∷ []) ∷ (Ticked (one_number 6) (both_numbers 6) ∷ []) ∷ [] ∷ []
 ticked = refl
 
 -- the other session sees what all see
-another_ticked : entries_of (there stage.Live) (event.Tick room) (hub_at 6 (Some stage.Live)) [] room other
+another_ticked : room_entries (there stage.Live) event.Tick (room_at 6 (Some stage.Live)) other
     ≡ Ticked (one_number 6) (one_number 6) ∷ []
 another_ticked = refl
 
 -- the stage before the tick counts; a session that isn't there afterwards sees nothing
-ticked_before : entries (there stage.Joining) (event.Tick room) (hub_at 6 (Some stage.Live)) ∷ entries (there stage.Live) (event.Tick room) gone ∷ []
+ticked_before : entries (there stage.Joining) event.Tick (room_at 6 (Some stage.Live)) ∷ entries (there stage.Live) event.Tick gone ∷ []
     ≡ repeat 2 ([] ∷ [])
 ticked_before = refl
-
--- a tick of another room
-another_room_ticks : map tick_of (other_room ∷ codes "room00003" ∷ []) ≡ repeat 2 (none ∷ [])
-another_room_ticks = refl
 
 -- ---- a lost connection
 
@@ -340,19 +244,19 @@ abbrev open_stages : List Stage
 open_stages = stage.Joining ∷ stage.Due ∷ stage.Live ∷ []
 
 -- the seat is kept
-dropped : map (λ s. entries (there s) (event.Lost 2) (there stage.Kept)) open_stages ≡ repeat 3 ((Dropped true ∷ []) ∷ [])
+dropped : map (λ s. entries (there s) (event.Lost mine 1000) (there stage.Kept)) open_stages ≡ repeat 3 ((Dropped true ∷ []) ∷ [])
 dropped = refl
 
 -- it isn't
-dropped_for_good : map (λ s. entries (there s) (event.Lost 2) gone) open_stages ≡ repeat 3 ((Dropped false ∷ []) ∷ [])
+dropped_for_good : map (λ s. entries (there s) (event.Lost mine 1000) gone) open_stages ≡ repeat 3 ((Dropped false ∷ []) ∷ [])
 dropped_for_good = refl
 
--- the connection isn't its own, or no longer
-not_dropped : map (λ s. entries (there s) (event.Lost 2) (there s)) (stage.Reserved ∷ stage.Kept ∷ []) ≡ repeat 2 ([] ∷ [])
+-- it had none
+not_dropped : map (λ s. entries (there s) (event.Lost mine 1000) (there s)) (stage.Reserved ∷ stage.Kept ∷ []) ≡ repeat 2 ([] ∷ [])
 not_dropped = refl
 
--- another connection is lost
-another_is_dropped : map (λ n. at_each (event.Lost n)) (3 ∷ 4 ∷ 5 ∷ []) ≡ repeat 3 (none ∷ [])
+-- the other session's connection is lost
+another_is_dropped : at_each (event.Lost other 1000) ≡ none
 another_is_dropped = refl
 
 -- ---- a kick
@@ -361,20 +265,18 @@ another_is_dropped = refl
 kicked : map (λ s. entries (there s) (do_act (act.Kick mine 4003)) gone) stages ≡ repeat 5 ((Kicked 4003 ∷ []) ∷ [])
 kicked = refl
 
--- a kick of the other session, and one in the other room
-another_is_kicked : map at_each (do_act (act.Kick other 4003) ∷ event.Act other_room (act.Kick mine 4003) ∷ []) ≡ repeat 2 (none ∷ [])
+-- a kick of the other session
+another_is_kicked : at_each (do_act (act.Kick other 4003)) ≡ none
 another_is_kicked = refl
 
 -- ---- a moment
 
--- the session is gone afterwards, alone or with its room
-lapsed : entries (there stage.Reserved) (event.At 20000) gone ∷ entries (there stage.Kept) (event.At 20000) gone
-    ∷ entries (there stage.Kept) (event.At 20000) no_rooms ∷ []
-    ≡ repeat 3 ((Lapsed ∷ []) ∷ [])
+-- the session is gone afterwards
+lapsed : map (λ s. entries (there s) (event.Moment 20000) gone) (stage.Reserved ∷ stage.Kept ∷ []) ≡ repeat 2 ((Lapsed ∷ []) ∷ [])
 lapsed = refl
 
 -- it stays
-stayed : at_each (event.At 20000) ≡ none
+stayed : at_each (event.Moment 20000) ≡ none
 stayed = refl
 
 -- ---- what adds no entry
@@ -394,59 +296,32 @@ view_edited = refl
 marked : map (λ a. at_each (do_act a)) (act.Lock ∷ act.Unlock ∷ act.Keep mine 5000 ∷ []) ≡ repeat 3 (none ∷ [])
 marked = refl
 
--- what is no request
-no_request : map (λ n. at_each (event.Bad n)) (1 ∷ 2 ∷ []) ≡ repeat 2 (none ∷ [])
-no_request = refl
+-- a reservation
+reserved : at_each (event.Reserve mine 15000) ++ at_each (event.Reserve other 15000) ≡ none ++ none
+reserved = refl
 
--- ---- what the life's connections are given
+-- ---- what the life's connection is given
 
-abbrev outputs : HubValue → HubEvent → HubValue → List HubOut → List Sending
-outputs before e after outs = outputs_of before e after outs room mine
-
--- a frame and a closing to a connection
-abbrev send_and_close : ℕ → List HubOut
-send_and_close n = out.Send n (14 ∷ []) ∷ out.Close n 4003 ∷ []
-
--- to its own connection, before the event and after it, before it alone, after it alone
-given : outputs (there stage.Due) (event.Tick room) (there stage.Live) (send_and_close 2)
-    ∷ outputs (there stage.Live) (do_act (act.Kick mine 4003)) gone (send_and_close 2)
-    ∷ outputs (there stage.Reserved) opening (there stage.Joining) (send_and_close 2) ∷ []
-    ≡ repeat 3 ((Frame (14 ∷ []) ∷ Closing 4003 ∷ []) ∷ [])
-given = refl
-
--- to a connection that is its own neither before nor after
-not_given : map (λ h. outputs h (event.Tick room) h (send_and_close 2)) (there stage.Reserved ∷ there stage.Kept ∷ gone ∷ []) ≡ repeat 3 ([] ∷ [])
-not_given = refl
-
--- to other connections
-another_is_given : map (λ n. outputs (there stage.Live) (event.Tick room) (there stage.Live) (send_and_close n)) (3 ∷ 4 ∷ 5 ∷ [])
-    ≡ repeat 3 ([] ∷ [])
-another_is_given = refl
+abbrev outputs : List RoomOut → List Sending
+outputs outs = flat_map (given_by mine) outs
 
 -- its own outputs in their order, without those of others
-given_in_order : outputs (there stage.Live) (event.Tick room) (there stage.Live)
-    (out.Send 3 (1 ∷ []) ∷ out.Send 2 (2 ∷ []) ∷ out.Left room other ∷ out.Close 4 4003 ∷ out.Send 2 (3 ∷ []) ∷ out.Close 2 4003 ∷ [])
+given_in_order : outputs (out.Send other (1 ∷ []) ∷ out.Send mine (2 ∷ []) ∷ out.Left other ∷ out.Close other 4003 ∷ out.Send mine (3 ∷ []) ∷ out.Close mine 4003 ∷ [])
     ≡ Frame (2 ∷ []) ∷ Frame (3 ∷ []) ∷ Closing 4003 ∷ []
 given_in_order = refl
 
--- nothing where an event is what is no request, whatever the connection
-bad_is_not_given : map (λ n. outputs (there stage.Live) (event.Bad n) (there stage.Live) (send_and_close 2)) (1 ∷ 2 ∷ [])
-    ≡ repeat 2 ([] ∷ [])
-bad_is_not_given = refl
-
 -- nothing of what isn't sent over the connection
-lines_are_not_given : outputs (there stage.Live) (event.Tick room) (there stage.Live)
-    (out.Reply 2 my_reply ∷ out.Created room (codes "duel") ∷ out.Joined room mine ∷ out.Returned room mine ∷ out.Message room mine (Num (pos 5)) []
-    ∷ out.RawMessage room mine (Num (pos 5)) [] ∷ out.Dropped room mine ∷ out.Left room mine ∷ out.Disposed room ∷ out.Made room 1
-    ∷ out.Refused refusal.NotHere ∷ [])
+lines_are_not_given :
+    outputs
+    (out.Entered mine ∷ out.Back mine ∷ out.NoSeat mine ∷ out.TokenInUse mine ∷ out.Message mine (Num (pos 5)) [] ∷ out.RawMessage mine (Num (pos 5)) [] ∷ out.Dropped mine
+    ∷ out.Left mine ∷ out.Made 1 ∷ out.Refused refusal.NotHere ∷ [])
     ≡ []
 lines_are_not_given = refl
 
 -- ---- a life
 
-abbrev a_life : Bool → List Entry → List Sending → List RowEntry → Life
+abbrev a_life : Bool → List Entry → List Sending → List RowEntry → RoomLife
 a_life lasts entries outputs view = record {
-  room = room;
   session = mine;
   lasts = lasts;
   entries = Opened (codes "token0001") ∷ entries;
@@ -454,38 +329,33 @@ a_life lasts entries outputs view = record {
   view = view;
 }
 
+abbrev send_and_close : List RoomOut
+send_and_close = out.Send mine (14 ∷ []) ∷ out.Close mine 4003 ∷ []
+
 -- events of each kind
-abbrev events : List HubEvent
+abbrev events : List RoomEvent
 events =
-    event.At 20000 ∷ ask ∷ event.Bad 2 ∷ opening ∷ event.Frame 2 (12 ∷ []) ∷ event.Lost 2 ∷ do_act (act.Kick mine 4003) ∷ event.Tick room ∷ []
+    event.Moment 20000 ∷ event.Reserve mine 15000 ∷ opening ∷ event.Frame mine (12 ∷ []) ∷ event.Lost mine 1000 ∷ do_act (act.Kick mine 4003) ∷ event.Tick ∷ []
 
 -- a life that has ended stays as it is, also where its session is there again
-ended : map (λ e. lived (there stage.Live) e gone (send_and_close 2) (a_life false [] [] root)) events
-    ++ map (λ e. lived gone e (there stage.Live) (send_and_close 2) (a_life false [] [] root)) events
-    ≡ repeat 16 (a_life false [] [] root ∷ [])
+ended : map (λ e. lived (there stage.Live) e (gone, send_and_close) (a_life false [] [] root)) events
+    ++ map (λ e. lived gone e (there stage.Live, send_and_close) (a_life false [] [] root)) events
+    ≡ repeat 14 (a_life false [] [] root ∷ [])
 ended = refl
 
 -- one that goes on takes up what comes: a frame, a kick that ends it, a tick with its rows
-went_on : lived (there stage.Live) (event.Frame 2 (13 ∷ [])) (there stage.Live) (out.Send 2 (11 ∷ []) ∷ []) (a_life true [] [] root)
-    ∷ lived (there stage.Live) (do_act (act.Kick mine 4003)) gone (out.Close 2 4003 ∷ []) (a_life true [] [] root)
-    ∷ lived (there stage.Live) (event.Tick room) (hub_at 6 (Some stage.Live)) (out.Send 2 (15 ∷ []) ∷ []) (a_life true [] [] root) ∷ []
+went_on : lived (there stage.Live) (event.Frame mine (13 ∷ [])) (there stage.Live, out.Send mine (11 ∷ []) ∷ []) (a_life true [] [] root)
+    ∷ lived (there stage.Live) (do_act (act.Kick mine 4003)) (gone, out.Close mine 4003 ∷ []) (a_life true [] [] root)
+    ∷ lived (there stage.Live) event.Tick (room_at 6 (Some stage.Live), out.Send mine (15 ∷ []) ∷ []) (a_life true [] [] root) ∷ []
     ≡ a_life true (Framed (13 ∷ []) ∷ []) (Frame (11 ∷ []) ∷ []) root
     ∷ a_life false (Kicked 4003 ∷ []) (Closing 4003 ∷ []) root
     ∷ a_life true (Ticked (one_number 6) (both_numbers 6) ∷ []) (Frame (15 ∷ []) ∷ []) (both_numbers 6) ∷ []
 went_on = refl
 
--- a tick of the other room leaves it as it is
-another_room_went_on :
-    lived (there stage.Live) (event.Tick other_room) (hub_at 6 (Some stage.Live)) (out.Send 4 (15 ∷ []) ∷ []) (a_life true [] [] root)
-    ≡ a_life true [] [] root
-another_room_went_on = refl
-
--- a life begins where a room has the request's session after the request and had it not before
-it_begins : begun gone ask (there stage.Reserved)
-    ≡ record { room = room; session = mine; lasts = true; entries = []; outputs = []; view = root } ∷ []
+-- a life begins with a reservation of a session that isn't there
+it_begins : begun gone (event.Reserve mine 15000) ≡ record { session = mine; lasts = true; entries = []; outputs = []; view = root } ∷ []
 it_begins = refl
 
--- none begins where the session was there, isn't there, or by another event
-none_begins : begun (there stage.Reserved) ask (there stage.Reserved) ∷ begun gone ask gone ∷ begun gone opening (there stage.Joining) ∷ []
-    ≡ repeat 3 ([] ∷ [])
+-- none begins where the session is there, or by another event
+none_begins : begun (there stage.Reserved) (event.Reserve mine 15000) ∷ begun gone opening ∷ begun gone event.Tick ∷ [] ≡ repeat 3 ([] ∷ [])
 none_begins = refl

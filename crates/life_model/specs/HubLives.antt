@@ -19,7 +19,7 @@ use Rattle.hub_model.specs.HubValues.{HubValue, HubRoom, is_named, room_of, is_c
 use Rattle.hub_model.specs.Dealt.{RoomStep}
 use Rattle.hub_model.specs.HubStep.{Rules, decided, reserved_in, answered_in, deals, makes, hub_step}
 use Rattle.life_model.specs.Entries.{Entry, Record, Asked, Sending, Frame, Closing}
-use Rattle.life_model.specs.Lives.{is_at, is_live_stage}
+use Rattle.life_model.specs.Lives.{entry_if, is_at, is_live_stage}
 use Rattle.life_model.specs.RoomLives.{RoomLife, room_entries, view_after}
 
 -- a life: its room and session, whether it goes on, its record, what its connections were given, and its permitted
@@ -70,9 +70,6 @@ view_dealt rules h e l (Some r) = dealt_view rules.step r.room (deals rules h e 
 abbrev pub is_seat_of : HubLife → List ℕ × List ℕ → Bool
 is_seat_of l s = bytes_eq s.0 l.room && bytes_eq s.1 l.session
 
-abbrev pub asked_if : Bool → List ℕ → List ℕ → List ℕ → List Entry
-asked_if test target body reply = if test then Asked target body reply ∷ [] else []
-
 -- the reply that an event gives
 abbrev pub reply_given : List HubOut → List ℕ
 reply_given [] = []
@@ -82,7 +79,7 @@ reply_given (o ∷ outs) = reply_given outs
 -- by the seat of which the reply tells
 abbrev pub asked_entries : Rules → HubValue → HubEvent → List HubOut → HubLife → List Entry
 asked_entries rules h (event.Ask conn target body room session) outs l =
-    asked_if (option_map_or (is_seat_of l) (answered_in h room session (decided rules h target body room session)) false) target body (reply_given outs)
+    entry_if (option_map_or (is_seat_of l) (answered_in h room session (decided rules h target body room session)) false) (Asked target body (reply_given outs))
 asked_entries rules h e outs l = []
 
 -- ---- what its connections are given

@@ -16,7 +16,7 @@ use Rattle.hub_model.specs.declared.request.AskFault.{AskFault}
 use Rattle.hub_model.specs.HubValues.{HubRoom, new_hub}
 use Rattle.hub_model.specs.HubStep.{Rules}
 use Rattle.life_model.specs.Sent.{sent}
-use Rattle.life_model.specs.Promises.{latest_frames}
+use Rattle.life_model.specs.LatestFrames.{latest_frames}
 use Rattle.life_model.specs.HubLives.{HubLife, HubRun, hub_run, is_live}
 
 -- ---- events that may come
@@ -55,10 +55,10 @@ HubsKeep =
     (read : List RoomDef → List ℕ → List ℕ → Result Request AskFault) (schema : Schema) (process : List ℕ) (defs : List RoomDef) (events : List HubEvent)
     → CanRun schema defs events → (n : ℕ) → HubKeeps schema (hub_run (rules_of read) (new_hub schema process defs) (take n events))
 
--- two runs of one schema: lives with equal records are given equal bytes
+-- two runs of one schema, whatever requests are taken to ask for in either: lives with equal records are given equal bytes
 abbrev pub HubsGiveEqualBytes : Type 0
 HubsGiveEqualBytes =
-    (read : List RoomDef → List ℕ → List ℕ → Result Request AskFault) (schema : Schema) (process other : List ℕ) (defs others : List RoomDef) (events happened : List HubEvent)
+    (read readen : List RoomDef → List ℕ → List ℕ → Result Request AskFault) (schema : Schema) (process other : List ℕ) (defs others : List RoomDef) (events happened : List HubEvent)
     → CanRun schema defs events → CanRun schema others happened → (k l : HubLife)
-    → Contains (hub_run (rules_of read) (new_hub schema process defs) events).lives k → Contains (hub_run (rules_of read) (new_hub schema other others) happened).lives l
+    → Contains (hub_run (rules_of read) (new_hub schema process defs) events).lives k → Contains (hub_run (rules_of readen) (new_hub schema other others) happened).lives l
     → k.entries ≡ l.entries → k.outputs ≡ l.outputs

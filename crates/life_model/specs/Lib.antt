@@ -2,6 +2,6 @@ pub mod Entries
 pub mod Sent
 pub mod Lives
 pub mod RoomLives
-pub mod Promises
+pub mod LatestFrames
 pub mod HubLives
 pub mod HubPromises

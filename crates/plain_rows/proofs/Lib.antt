@@ -1,5 +1,3 @@
-pub mod NumberViews
-pub mod NumberCommands
 pub mod Lists
 pub mod NumberSets
 pub mod Walks

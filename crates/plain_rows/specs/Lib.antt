@@ -1,5 +1,4 @@
 pub mod Counts
 pub mod Links
 pub mod Members
-pub mod Numbers
 pub mod Views

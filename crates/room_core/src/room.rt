@@ -12,7 +12,7 @@ ghost use Rattle.room_core.specs.Values.{room_of};
 use crate::clients::has_connection;
 use crate::frames::{message_frame, raw_frame};
 use crate::parts::Parts;
-use crate::takes::{is_moment, may_act};
+use crate::takes::is_moment;
 use crate::view_edit::ViewEdit;
 use lists::Seq;
 use live_state::LiveState;
@@ -71,7 +71,7 @@ impl Room {
             RoomEvent::Frame(session, _) => self.is_connected(*session),
             RoomEvent::Lost(session, now) => is_moment(*now) && self.is_connected(*session),
             RoomEvent::Moment(now) => is_moment(*now),
-            RoomEvent::Act(act) => may_act(act),
+            RoomEvent::Act(act) => act.is_within_limits(),
         }
     }
 

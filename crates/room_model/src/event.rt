@@ -1,3 +1,7 @@
+ghost use Rattle.std.specs.Prelude.{◌≡◌};
+ghost use Rattle.room_model.specs.Acts.{is_short_kind, may_act};
+
+use crate::limits::{KIND_BOUND, LONGEST_TIME};
 use crate::refusal::Refusal;
 use frame_model::MsgKind;
 use lists::Seq;
@@ -20,6 +24,32 @@ pub enum Act {
     Unlock,
     /// Sets for how many ms a session's seat is kept at its next drop.
     Keep(Id, u64),
+}
+
+impl Act {
+    /// Whether it is within the limits: a message's kind is a number or a name shorter than `KIND_BOUND` bytes, and a seat is
+    /// kept for `LONGEST_TIME` ms at most.
+    pub fn is_within_limits(&self) -> bool
+        ensures { result ≡ may_act self.now }
+    {
+        match self {
+            Act::Send(_, kind, _) | Act::Raw(_, kind, _) | Act::ToAll(kind, _) => {
+                is_short_kind(kind)
+            }
+            Act::Keep(_, ms) => *ms <= LONGEST_TIME,
+            _ => true,
+        }
+    }
+}
+
+// A message may be about this.
+fn is_short_kind(kind: &MsgKind) -> bool
+    ensures { result ≡ is_short_kind kind.now }
+{
+    match kind {
+        MsgKind::Name(name) => (name.as_slice().len() as u64) < KIND_BOUND,
+        MsgKind::Num(_) => true,
+    }
 }
 
 /// What happens to a room.

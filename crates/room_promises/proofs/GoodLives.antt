@@ -11,7 +11,7 @@ use Rattle.room_model.specs.declared.event.Stage.{Stage}
 use Rattle.room_model.specs.declared.event.Stage.TheVariants as stage
 use Rattle.room_model.specs.Sessions.{Session, session_of}
 use Rattle.life_model.specs.Entries.{Entry, Record, Sending, Frame}
-use Rattle.life_model.specs.Promises.{with_sending, latest_frames}
+use Rattle.life_model.specs.LatestFrames.{with_sending, latest_frames}
 use Rattle.life_model.specs.Sent as standing
 use Rattle.life_model.specs.Sent.{Standing, Progress, progress_of, sent}
 use Rattle.life_model.specs.RoomLives.{RoomLife}

@@ -17,7 +17,7 @@ use Rattle.room_model.specs.Room.{RoomValue, ended}
 use Rattle.room_laws.proofs.SessionLists.{named_key, named_but, session_changed}
 use Rattle.life_model.specs.Entries.{Entry, Record, Sending}
 use Rattle.life_model.specs.Lives.{entry_if, is_at, is_open}
-use Rattle.life_model.specs.Promises.{with_sending, latest_frames}
+use Rattle.life_model.specs.LatestFrames.{with_sending, latest_frames}
 use Rattle.life_model.specs.Sent.{Progress, progress_of, with_answer, after_entry, life_start, sent, sent_for}
 use Rattle.life_model.specs.RoomLives.{RoomLife, is_in, has_conn, given_by}
 use Rattle.room_promises.proofs.GoodLives.{Held, held, standing_at, SeesAt, Fits, GoesOn, GoodLife, good_life, with_more}

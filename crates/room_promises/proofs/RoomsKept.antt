@@ -18,7 +18,7 @@ use Rattle.room_laws.specs.Places.{room_after}
 use Rattle.room_laws.proofs.RoomPlaces.{rooms_keep_places}
 use Rattle.life_model.specs.Entries.{Sending}
 use Rattle.life_model.specs.Lives.{is_at, is_live_stage}
-use Rattle.life_model.specs.Promises.{latest_frames}
+use Rattle.life_model.specs.LatestFrames.{latest_frames}
 use Rattle.life_model.specs.Sent.{sent}
 use Rattle.life_model.specs.RoomLives.{RoomLife, RoomRun, run_step, room_run, is_live}
 use Rattle.room_promises.specs.RoomPromises.{Keeps, RoomsKeep, EqualRecordsEqualBytes}

@@ -22,7 +22,7 @@ use Rattle.room_model.specs.Sessions.{Session, at_stage}
 use Rattle.room_model.specs.Room.{frames_at, ticked_at, session_swept}
 use Rattle.life_model.specs.Entries.{Entry, Record, Ticked, Sending, Frame}
 use Rattle.life_model.specs.Lives.{sees_ticks}
-use Rattle.life_model.specs.Promises.{with_sending, latest_frames}
+use Rattle.life_model.specs.LatestFrames.{with_sending, latest_frames}
 use Rattle.life_model.specs.Sent as standing
 use Rattle.life_model.specs.Sent.{Standing, Progress, progress_of, after_entry}
 use Rattle.room_promises.proofs.GoodLives.{held, AreMessages, Fits, Sees}

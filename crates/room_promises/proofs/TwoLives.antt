@@ -16,7 +16,7 @@ use Rattle.room_model.specs.declared.definition.RoomDef.{RoomDef}
 use Rattle.room_model.specs.declared.event.Act.TheVariants as act
 use Rattle.room_model.specs.declared.event.RoomEvent.{RoomEvent}
 use Rattle.room_model.specs.declared.event.RoomEvent.TheVariants as event
-use Rattle.life_model.specs.Promises.{latest_frames}
+use Rattle.life_model.specs.LatestFrames.{latest_frames}
 use Rattle.life_model.specs.RoomLives.{RoomLife, RoomRun, room_run, is_live}
 use Rattle.room_promises.specs.RoomPromises.{CanPlay}
 

@@ -11,7 +11,7 @@ use Rattle.room_model.specs.Room.{new_room}
 use Rattle.room_laws.specs.Places.{may_follow}
 use Rattle.room_like.specs.Worded.{is_worded_event}
 use Rattle.life_model.specs.Sent.{sent}
-use Rattle.life_model.specs.Promises.{latest_frames}
+use Rattle.life_model.specs.LatestFrames.{latest_frames}
 use Rattle.life_model.specs.RoomLives.{RoomLife, RoomRun, room_run, is_live}
 
 -- what is promised of a run of a definition

@@ -8,10 +8,11 @@ use Rattle.outside.specs.Streams.{Takes, TakesFront}
 use Rattle.outside.proofs.TakeLaws.{whole_front, no_front}
 use Rattle.text_model.specs.declared.path.FirstPath.{FirstPath}
 use Rattle.text_model.specs.declared.path.PathWord.{PathWord}
-use Rattle.text_model.specs.Paths.{Path, IsTextOf, printed}
+use Rattle.text_model.specs.Paths.{Path, IsTextOf}
 use Rattle.text_model.specs.Readings.{read_path}
 use Rattle.text_model.proofs.PathLaw.{text_is_read, read_is_text}
 use Rattle.room_server.proofs.PathPromises.{path_keeps}
+use Rattle.room_server.specs.Turns.{printed}
 use Rattle.room_server.specs.declared.ending.Ending.{Ending}
 use Rattle.room_server.specs.declared.ending.Ending.TheVariants.{Done, Usage, Refused, ReadFailed, WriteFailed, Memory}
 use Rattle.room_server.specs.declared.output.WriteFault.{WriteFault}

@@ -1,18 +1,24 @@
 -- What was printed of the events so far, and what is still to come.
-use Rattle.std.proofs.Common.{◌≡◌, ◌<◌, ◌+◌, ℕ, suc, Bool, true, List, [], ◌∷◌, ◌++◌, length, get_or, Option, refl, sym, ap, ◌∙◌, append_assoc, append-nil, map, drop, add-one}
+use Rattle.std.proofs.Common.{◌≡◌, ◌<◌, ◌+◌, ◌-◌, ◌^◌, ◌&&◌, not, nat_lt, filter, ap₂, subst, ℕ, suc, Bool, true, false, List, [], ◌∷◌, ◌++◌, length, get_or, Option, refl, sym, ap, ◌∙◌, append_assoc, append-nil, map, drop, add-one}
 use Rattle.std.specs.List.{flat_map}
 use Rattle.std.proofs.Math.Seq.{drop-cons}
-use Rattle.std.proofs.lemmas.Bool.{and_parts}
+use Rattle.std.proofs.lemmas.Bool.{and_parts, and_from}
 use Rattle.std.proofs.lemmas.Grind.{flat_map-append}
-use Rattle.schema_model.specs.Classes.{Schema}
-use Rattle.hub_model.specs.Hub.{HubValue, hub_step, outs_from}
+use Rattle.hub_core.specs.Held.{Held, may_take}
+use Rattle.hub_model.specs.declared.event.HubEvent.{HubEvent}
+use Rattle.hub_model.specs.Dealt.{Dealt, dealt}
+use Rattle.hub_model.specs.HubStep.{deals, hub_step, is_needed, makes, outs_from}
+use Rattle.hub_model.specs.HubValues.{HubRoom, HubValue}
+use Rattle.hub_model.specs.Ids.{is_id}
+use Rattle.room_model.specs.Room.{room_step}
 use Rattle.hub_model.specs.declared.event.HubOut.{HubOut}
 use Rattle.text_model.specs.Outputs.{out_line}
-use Rattle.text_model.specs.Paths.{path_schema, event_of}
+use Rattle.text_model.specs.Paths.{event_of}
 use Rattle.text_model.specs.declared.path.FirstPath.{FirstPath}
 use Rattle.text_model.specs.declared.path.Item.{Item}
-use Rattle.path_hub.specs.PathHub.{may_come, may_follow, asked_after}
-use Rattle.room_server.specs.Turns.{told}
+use Rattle.text_model.specs.declared.path.Item.TheVariants.{Acknowledge, Ask, At, Open, Put, Tick}
+use Rattle.room_server.specs.Plays.{CanPlay, asks_once}
+use Rattle.room_server.specs.Turns.{rules, start, told}
 use Rattle.outside.specs.Streams.{Takes, TakesFront}
 use Rattle.outside.proofs.TakeLaws.{takes_none, takes_both, no_front, longer_front, front_behind}
 
@@ -22,7 +28,7 @@ pub record SoFar (before now : Option (List ℕ)) (rest whole : List ℕ) : Type
   pub took : Takes before now bytes
   pub joined : bytes ++ rest ≡ whole
 
-pub at_first : (now : Option (List ℕ)) (whole : List ℕ) → SoFar now now whole whole
+at_first : (now : Option (List ℕ)) (whole : List ℕ) → SoFar now now whole whole
 at_first now whole = record { bytes = []; took = takes_none now; joined = refl }
 
 -- a piece of what is left was taken
@@ -50,22 +56,83 @@ at_next : (items : List Item) (i : ℕ) (item : Item) → i < length items → i
 at_next items i item below is = drop-cons items i item below ∙ (ap (λ x. x ∷ drop (suc i) items) (sym is) ∙ ap (λ n. item ∷ drop n items) (sym (add-one i)))
 
 -- what is printed of an event stands before what is printed of those behind it
-pub told_next : (p : FirstPath) (schema : Schema) (hub after : HubValue) (items : List Item) (i : ℕ) (item : Item) (outs : List HubOut)
-    → schema ≡ path_schema p → i < length items → item ≡ get_or items i item
-    → outs ≡ (hub_step schema hub (event_of p item)).1 → after ≡ (hub_step schema hub (event_of p item)).0
+told_next : (p : FirstPath) (hub after : HubValue) (items : List Item) (i : ℕ) (item : Item) (outs : List HubOut)
+    → i < length items → item ≡ get_or items i item → outs ≡ (hub_step rules hub (event_of p item)).1 → after ≡ (hub_step rules hub (event_of p item)).0
     → told p hub (drop i items) ≡ flat_map out_line outs ++ told p after (drop (i + 1) items)
-told_next p schema hub after items i item outs same below is gives leads =
-    let step : Schema → HubValue × List HubOut = λ s. hub_step s hub (event_of p item) in
-    let next = at_next items i item below is in
-    ap (told p hub) next
-    ∙ (flat_map-append out_line (step (path_schema p)).1 (outs_from (path_schema p) (step (path_schema p)).0 (map (event_of p) (drop (i + 1) items)))
-    ∙ (ap (λ os. flat_map out_line os ++ told p (step (path_schema p)).0 (drop (i + 1) items)) (sym (gives ∙ ap (λ s. (step s).1) same))
-    ∙ ap (λ h. flat_map out_line outs ++ told p h (drop (i + 1) items)) (sym (leads ∙ ap (λ s. (step s).0) same))))
+told_next p hub after items i item outs below is gives leads =
+    let step : HubValue × List HubOut = hub_step rules hub (event_of p item) in
+    ap (told p hub) (at_next items i item below is)
+    ∙ (flat_map-append out_line step.1 (outs_from rules step.0 (map (event_of p) (drop (i + 1) items)))
+    ∙ (ap (λ os. flat_map out_line os ++ told p step.0 (drop (i + 1) items)) (sym gives)
+    ∙ ap (λ h. flat_map out_line outs ++ told p h (drop (i + 1) items)) (sym leads)))
 
--- the events behind one that may come may follow it
-pub follow_next : (n : ℕ) (asked after : Bool) (items : List Item) (i : ℕ) (item : Item) → i < length items → item ≡ get_or items i item
-    → may_follow n asked (drop i items) ≡ true → after ≡ asked_after asked item → (may_come n asked item ≡ true) × (may_follow n after (drop (i + 1) items) ≡ true)
-follow_next n asked after items i item below is follow leads =
-    let next = at_next items i item below is in
-    let both = and_parts (may_come n asked item) (may_follow n (asked_after asked item) (drop (i + 1) items)) (rw next at follow) in
-    (both.0, ap (λ b. may_follow n b (drop (i + 1) items)) leads ∙ both.1)
+-- ---- what may be taken
+
+-- a request came, or there is no room yet; and what is left may follow
+pub record Follows (hub : HubValue) (items : List Item) : Type 0 where
+  pub asked : Bool
+  pub once : asks_once asked items ≡ true
+  pub none : asked ≡ false → hub.rooms ≡ []
+
+-- before the first event there is no room, and nothing was printed
+pub first_follows : (p : FirstPath) (held : Held) (items : List Item) → held ≡ record { hub = start p; spent = false } → items ≡ p.items → CanPlay p → Follows held.hub items
+first_follows p held items is all plays = rw (is, all) (record { asked = false; once = plays.items; none = λ not_yet. refl })
+
+pub first_told : (p : FirstPath) (held : Held) (items : List Item) (now : Option (List ℕ)) → held ≡ record { hub = start p; spent = false } → items ≡ p.items
+    → SoFar now now (told p held.hub items) (told p (start p) p.items)
+first_told p held items now is all = rw (is, all) (at_first now (told p (start p) p.items))
+
+-- an event that makes nothing leaves no room where there was none
+no_room : (h : HubValue) (e : HubEvent) → makes rules h e ≡ [] → h.rooms ≡ [] → (hub_step rules h e).0.rooms ≡ []
+no_room h e made none = ap (λ rs. filter is_needed (map (λ (d : Dealt). d.room) (map (λ (r : HubRoom). dealt room_step r (deals rules h e r)) rs))) (ap₂ (λ a b. a ++ b) none made)
+
+-- the hub takes the next event
+takes_next : (p : FirstPath) (h : HubValue) (item : Item) (rest : List Item) → CanPlay p → Follows h (item ∷ rest) → may_take h (event_of p item) ≡ true
+takes_next p h (At ms) rest plays f = refl
+takes_next p h (Ask conn) rest plays f =
+    let both = and_parts (not f.asked) (asks_once true rest) f.once in
+    let none : h.rooms ≡ [] = f.none (not_true f.asked both.0) in
+    and_from (nat_lt (length h.rooms) (2 ^ 32 - 1)) (is_id p.room && is_id p.session) (ap (λ (rs : List HubRoom). nat_lt (length rs) (2 ^ 32 - 1)) none) (and_from (is_id p.room) (is_id p.session) plays.room plays.session)
+  where
+    not_true : (b : Bool) → not b ≡ true → b ≡ false
+    not_true true h = absurd cc
+    not_true false h = refl
+takes_next p h (Open conn fresh) rest plays f = (and_parts (is_id fresh) (asks_once f.asked rest) f.once).0
+takes_next p h (Acknowledge conn) rest plays f = refl
+takes_next p h (Put field z) rest plays f = refl
+takes_next p h Tick rest plays f = refl
+
+-- and those behind it may follow
+follows_next : (p : FirstPath) (h : HubValue) (item : Item) (rest : List Item) → Follows h (item ∷ rest) → Follows (hub_step rules h (event_of p item)).0 rest
+follows_next p h (At ms) rest f = record { asked = f.asked; once = f.once; none = λ not_yet. no_room h (event_of p (At ms)) refl (f.none not_yet) }
+follows_next p h (Ask conn) rest f = record { asked = true; once = (and_parts (not f.asked) (asks_once true rest) f.once).1; none = λ not_yet. absurd cc }
+follows_next p h (Open conn fresh) rest f =
+    record { asked = f.asked; once = (and_parts (is_id fresh) (asks_once f.asked rest) f.once).1; none = λ not_yet. no_room h (event_of p (Open conn fresh)) refl (f.none not_yet) }
+follows_next p h (Acknowledge conn) rest f = record { asked = f.asked; once = f.once; none = λ not_yet. no_room h (event_of p (Acknowledge conn)) refl (f.none not_yet) }
+follows_next p h (Put field z) rest f = record { asked = f.asked; once = f.once; none = λ not_yet. no_room h (event_of p (Put field z)) refl (f.none not_yet) }
+follows_next p h Tick rest f = record { asked = f.asked; once = f.once; none = λ not_yet. no_room h (event_of p Tick) refl (f.none not_yet) }
+
+-- what is left, item by item
+follows_at : (h : HubValue) (items : List Item) (i : ℕ) (item : Item) → i < length items → item ≡ get_or items i item → Follows h (drop i items) → Follows h (item ∷ drop (i + 1) items)
+follows_at h items i item below is f = subst (Follows h) (at_next items i item below is) f
+
+-- ---- an event of the list
+
+-- the hub that an event leads to
+after_event : (p : FirstPath) (h : HubValue) (after : Held) (item : Item) (event : HubEvent) → event ≡ event_of p item → after ≡ record { hub = (hub_step rules h event).0; spent = false }
+    → after.hub ≡ (hub_step rules h (event_of p item)).0
+after_event p h after item event e leads = ap (λ (x : Held). x.hub) leads ∙ ap (λ x. (hub_step rules h x).0) e
+
+pub takes_on : (p : FirstPath) (h : HubValue) (items : List Item) (i : ℕ) (item : Item) (event : HubEvent) → i < length items → item ≡ get_or items i item → event ≡ event_of p item → CanPlay p → Follows h (drop i items)
+    → may_take h event ≡ true
+takes_on p h items i item event below is e plays f = rw (e) (takes_next p h item (drop (i + 1) items) plays (follows_at h items i item below is f))
+
+pub follows_on : (p : FirstPath) (h : HubValue) (after : Held) (items : List Item) (i : ℕ) (item : Item) (event : HubEvent) → i < length items → item ≡ get_or items i item → event ≡ event_of p item
+    → after ≡ record { hub = (hub_step rules h event).0; spent = false } → Follows h (drop i items) → Follows after.hub (drop (i + 1) items)
+follows_on p h after items i item event below is e leads f =
+    subst (λ x. Follows x (drop (i + 1) items)) (sym (after_event p h after item event e leads)) (follows_next p h item (drop (i + 1) items) (follows_at h items i item below is f))
+
+pub told_on : (p : FirstPath) (h : HubValue) (after : Held) (items : List Item) (i : ℕ) (item : Item) (event : HubEvent) (outs : List HubOut) → i < length items → item ≡ get_or items i item → event ≡ event_of p item
+    → outs ≡ (hub_step rules h event).1 → after ≡ record { hub = (hub_step rules h event).0; spent = false } → told p h (drop i items) ≡ flat_map out_line outs ++ told p after.hub (drop (i + 1) items)
+told_on p h after items i item event outs below is e gives leads =
+    told_next p h after.hub items i item outs below is (gives ∙ ap (λ x. (hub_step rules h x).1) e) (after_event p h after item event e leads)

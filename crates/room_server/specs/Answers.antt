@@ -5,12 +5,12 @@ use Rattle.text_model.specs.declared.path.FirstPath.{FirstPath}
 use Rattle.text_model.specs.declared.path.PathWord.{PathWord}
 use Rattle.text_model.specs.declared.path.PathWord.TheVariants.{Unbuilt, End}
 use Rattle.text_model.specs.Marks.{line}
-use Rattle.text_model.specs.Paths.{printed}
 use Rattle.text_model.specs.Readings.{read_path}
 use Rattle.room_server.specs.declared.ending.Ending.{Ending}
 use Rattle.room_server.specs.declared.ending.Ending.TheVariants.{Done, Usage, Refused}
 use Rattle.room_server.specs.declared.task.Task.{Task}
 use Rattle.room_server.specs.declared.task.Task.TheVariants.{Replay}
+use Rattle.room_server.specs.Turns.{printed}
 use Rattle.room_server.specs.Words.{usage_line}
 
 -- the word of a refused line

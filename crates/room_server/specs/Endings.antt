@@ -3,13 +3,14 @@ use Rattle.std.specs.Prelude.{◌≡◌, ◌⊎◌, ℕ, ◌^◌, ◌≤◌, Lis
 use Rattle.outside.specs.Faults.{Rose}
 use Rattle.outside.specs.Reads.{Reads, ReadsAll}
 use Rattle.outside.specs.Streams.{Takes, TakesFront}
-use Rattle.text_model.specs.Paths.{Path, is_path, text_of, first_path, printed, IsTextOf}
+use Rattle.text_model.specs.Paths.{Path, is_path, text_of, first_path, IsTextOf}
 use Rattle.room_server.specs.declared.ending.Ending.{Ending}
 use Rattle.room_server.specs.declared.ending.Ending.TheVariants.{Done, Usage, Refused, ReadFailed, WriteFailed, Memory}
 use Rattle.room_server.specs.declared.output.WriteFault.{WriteFault}
 use Rattle.room_server.specs.declared.output.WriteFault.TheVariants as fault
 use Rattle.room_server.specs.Promised.{KeepsPromises}
 use Rattle.room_server.specs.Answers.{Answer, answer_to, refusal, usage}
+use Rattle.room_server.specs.Turns.{printed}
 use Rattle.room_server.specs.declared.task.Task.{Task}
 
 -- the status of the process

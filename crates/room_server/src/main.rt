@@ -2,9 +2,11 @@
 #![tactic(auto)]
 
 mod ending;
+mod event;
 mod output;
 mod replay;
 mod run;
+mod schema;
 mod task;
 #[cfg(test)]
 mod tests;

@@ -1,21 +1,24 @@
 //! The command `replay`: runs a schedule and writes what it gives.
-ghost use Rattle.std.specs.Prelude.{None, ◌≡◌, ◌+◌, ◌≤◌, ◌<◌, ◌^◌, ◌++◌, [], ◌∷◌, ℕ, List, false, length, codes, true, IsTrue, is_some, IsErrOf};
+ghost use Rattle.std.specs.Prelude.{None, ◌≡◌, ◌+◌, ◌≤◌, ◌<◌, ◌^◌, ◌++◌, [], ◌∷◌, ℕ, List, false, length, codes, true, IsTrue, is_some, IfOk, IsErrOf};
 ghost use Rattle.outside.specs.Faults.{Rose};
 ghost use Rattle.outside.specs.Reads.{Reads};
 ghost use Rattle.text_model.specs.Marks.{line, lines};
-ghost use Rattle.text_model.specs.Paths.{Path, is_path, first_path, path_schema, printed, schema_lines};
-ghost use Rattle.path_hub.specs.PathHub.{hub_of, Fits, is_playable, may_follow};
+ghost use Rattle.text_model.specs.Paths.{Path, is_path, first_path, path_schema};
 ghost use Rattle.room_server.specs.Answers.{answer_to, word_text};
 ghost use Rattle.room_server.specs.Endings.{Writes, HasWriteCause, EndsAs, Replays, ended_as};
-ghost use Rattle.room_server.specs.Turns.{told};
+ghost use Rattle.room_server.specs.Plays.{CanPlay};
+ghost use Rattle.room_server.specs.Turns.{printed, start, told};
 ghost use Rattle.room_server.specs.declared.ending.Ending.TheVariants as ending;
 
 use crate::ending::Ending;
+use crate::event::event_of;
 use crate::output::{WriteFault, write_end, write_outs, write_refusal, write_schema};
+use crate::schema::schema_of;
+use hub_core::Hub;
+use lists::{Memory, Seq};
 use outside::{LIMIT, ReadFault, Sink, Source, read_text};
-use path_hub::{PathHub, schema_of};
+use room_core::Room;
 use schedule_text::read_first_path;
-use schema_model::Schema;
 use std::alloc::Global;
 use std::marker::Brand;
 use std::sync::ledger::{Blank, Ledger};
@@ -95,11 +98,10 @@ fn play<K: Sink>(alloc: Global, path: &FirstPath, sink: &mut K) -> Result<(), Wr
 fn play_whole<K: Sink>(alloc: Global, path: &FirstPath, sink: &mut K) -> Result<(), WriteFault>
     requires { (parts : Path) × (is_path parts ≡ true) × (path.now ≡ first_path parts) }
     ensures writes { Writes (K.taken sink.old) (K.taken sink.new)
-        (told path.now (hub_of path.now 0 None None) path.now.items ++ line (codes "end" ∷ [])) result }
+        (told path.now (start path.now) path.now.items ++ line (codes "end" ∷ [])) result }
     ensures cause { HasWriteCause (K.faults sink.old) (K.faults sink.new) result }
 {
-    let schema = schema_of(alloc, path)?;
-    play_items::<K, Brand>(alloc, path, &schema, sink, Blank::new(1))?;
+    play_items::<K, Brand>(alloc, path, sink, Blank::new(1))?;
     write_end(alloc, sink)
 }
 
@@ -107,24 +109,33 @@ fn play_whole<K: Sink>(alloc: Global, path: &FirstPath, sink: &mut K) -> Result<
 fn play_items<K: Sink, L: Ledger>(
     alloc: Global,
     path: &FirstPath,
-    schema: &Schema,
     sink: &mut K,
     blank: Blank,
 ) -> Result<(), WriteFault>
     requires name { blank.name ≡ L.name }
     requires parts { blank.parts ≡ L.parts }
     requires some { 0 < blank.parts }
-    requires schema { schema.now ≡ path_schema path.now }
-    requires path { IsTrue (is_playable path.now) }
-    requires items { IsTrue (may_follow (length path.now.fields) false path.now.items) }
-    ensures writes { Writes (K.taken sink.old) (K.taken sink.new) (told path.now (hub_of path.now 0 None None) path.now.items) result }
+    requires path { CanPlay path.now }
+    ensures writes { Writes (K.taken sink.old) (K.taken sink.new) (told path.now (start path.now) path.now.items) result }
     ensures cause { HasWriteCause (K.faults sink.old) (K.faults sink.new) result }
 {
-    let mut hub = PathHub::new();
+    let mut hub = hub_of(alloc, path)?;
     let mut steps = Steps::<L>::new(blank);
     for item in path.items.as_slice() {
-        let outs = hub.step(alloc, path, schema, item, &mut steps)?;
+        let event = event_of(alloc, path, item)?;
+        let outs = hub.step(&event, &mut steps)?;
         write_outs(alloc, sink, &outs)?;
     }
     Ok(())
+}
+
+/// The hub of a schedule before its events.
+fn hub_of(alloc: Global, path: &FirstPath) -> Result<Hub<Room>, Memory>
+    requires { CanPlay path.now }
+    ensures { IfOk result (λ h. h ≡ record { hub = start path.now; spent = false }) }
+{
+    let schema = schema_of(alloc, path)?;
+    let mut defs = Seq::new(alloc);
+    defs.push(path.def.copy(alloc)?)?;
+    Hub::new(alloc, schema, path.process, defs)
 }

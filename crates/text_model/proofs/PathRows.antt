@@ -1,9 +1,9 @@
--- A schedule of one room and one client, its text, how it is read, and what is printed of it.
+-- A schedule of one room and one client, its text, and how it is read.
 use Rattle.std.specs.Prelude.{◌≡◌, ℕ, List, [], ◌∷◌, ◌++◌, true, pos, Ok, codes, refl}
 use Rattle.std.specs.Fmt.{digits}
 use Rattle.std.specs.List.{flat_map}
 use Rattle.text_model.specs.declared.path.Item.TheVariants.{Put, Tick}
-use Rattle.text_model.specs.Paths.{Path, is_path, text_of, first_path, printed}
+use Rattle.text_model.specs.Paths.{Path, is_path, text_of, first_path}
 use Rattle.text_model.specs.Readings.{read_path}
 
 -- each text as a line
@@ -45,10 +45,3 @@ its_text = refl
 it_is_read : read_path one_put_text ≡ Ok (first_path one_put)
 unfolding digits
 it_is_read = refl
-
-its_output : printed (first_path one_put) ≡ text_lines (
-    codes "class State" ∷ codes "field x number" ∷ codes "root State" ∷ codes "created room00001 duel"
-    ∷ codes "reply 1 {\"room\":{\"clients\":1,\"maxClients\":4,\"name\":\"duel\",\"processId\":\"proc00001\",\"roomId\":\"room00001\"},\"sessionId\":\"sess00001\"}"
-    ∷ codes "joined room00001 sess00001" ∷ codes "send 2 0a09746f6b656e3030303106736368656d61" ∷ codes "send 2 0e8005" ∷ codes "end" ∷ [])
-unfolding digits
-its_output = refl

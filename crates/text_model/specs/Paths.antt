@@ -1,6 +1,6 @@
--- Schedules of one room and one client over a class of numbers: their parts, their one text, their events, and what is printed of them. Ours.
+-- Schedules of one room and one client over a class of numbers: their parts, their one text, and their events. Ours.
 use Rattle.std.specs.Prelude.{◌≡◌, ℕ, ◌^◌, Bool, true, false, not, ◌&&◌, List, [], ◌∷◌, ◌++◌, length, map, None, nat_lt, ◌==◌, codes}
-use Rattle.std.specs.List.{list_all, flat_map}
+use Rattle.std.specs.List.{list_all}
 use Rattle.std.specs.Str.{bytes_eq}
 use Rattle.std.specs.Fmt.{decimal}
 use Rattle.room_model.specs.Definitions.{is_within, is_room_def}
@@ -18,13 +18,11 @@ use Rattle.room_model.specs.declared.event.Act.TheVariants as act
 use Rattle.hub_model.specs.declared.event.HubEvent.{HubEvent}
 use Rattle.hub_model.specs.declared.event.HubEvent.TheVariants as event
 use Rattle.hub_model.specs.Replies.{join_or_create_target, opening_target}
-use Rattle.hub_model.specs.Hub.{run_of}
 use Rattle.text_model.specs.declared.path.Item.{Item}
 use Rattle.text_model.specs.declared.path.Item.TheVariants.{At, Ask, Open, Acknowledge, Put, Tick}
 use Rattle.text_model.specs.declared.path.FirstPath.{FirstPath}
 use Rattle.text_model.specs.Decimals.{signed_text}
 use Rattle.text_model.specs.Marks.{is_class_name, is_field_name, is_id, is_room_name, line, lines}
-use Rattle.text_model.specs.Outputs.{out_line}
 
 -- ---- the parts
 
@@ -152,9 +150,3 @@ event_of p Tick = event.Tick p.room
 -- the events of the schedule
 abbrev pub events_of : FirstPath → List HubEvent
 events_of p = map (event_of p) p.items
-
--- what is printed: the schema lines, the outputs of the run of its events, and `end`
-abbrev pub printed : FirstPath → List ℕ
-printed p =
-    lines (schema_lines p.class p.fields)
-    ++ (flat_map out_line (run_of (path_schema p) p.process (p.def ∷ []) (events_of p)) ++ line (codes "end" ∷ []))

@@ -6,5 +6,4 @@ mod PlaceLaws
 mod RestLaws
 mod SlotLaws
 pub mod EffectLaws
-pub mod NumbersWritable
 mod WrittenAgain

@@ -1,7 +1,6 @@
 pub mod Bodies
 pub mod Fronts
 pub mod Index
-pub mod NumberBlocks
 pub mod Places
 pub mod PlainEdits
 pub mod Slots

@@ -2,8 +2,9 @@
 use crate::commands::Script;
 use crate::events::Crowd;
 use crate::fault::WorkFault;
+use crate::hubs::Deed;
 use crate::part::Part;
-use crate::{decoding, messages, packs, requests, schemas, seats, tables, views};
+use crate::{decoding, hubs, messages, packs, requests, schemas, seats, tables, views};
 use std::alloc::Global;
 
 // Clients who look around.
@@ -48,10 +49,12 @@ pub enum Kernel {
     /// Requests for a seat, and bodies.
     Requests,
     Bodies,
+    /// Frames, requests and moments of a hub.
+    Hub(Deed),
 }
 
 // Each with its name.
-const KERNELS: [(&str, Kernel); 24] = [
+const KERNELS: [(&str, Kernel); 27] = [
     ("things", Kernel::Commands(Script::Things)),
     ("players", Kernel::Commands(Script::Players)),
     ("numbers_back", Kernel::Commands(Script::NumbersBack)),
@@ -76,6 +79,9 @@ const KERNELS: [(&str, Kernel); 24] = [
     ("pack_lies", Kernel::PackLies),
     ("requests", Kernel::Requests),
     ("bodies", Kernel::Bodies),
+    ("hub_frames", Kernel::Hub(Deed::Frames)),
+    ("hub_requests", Kernel::Hub(Deed::Requests)),
+    ("hub_moments", Kernel::Hub(Deed::Moments)),
 ];
 
 impl Kernel {
@@ -111,6 +117,7 @@ impl Kernel {
             Kernel::PackLies => packs::read_lies(alloc, size, done),
             Kernel::Requests => requests::ask(alloc, size, done),
             Kernel::Bodies => requests::read_bodies(alloc, size, done),
+            Kernel::Hub(deed) => hubs::play(alloc, deed, size, done),
         }
     }
 }

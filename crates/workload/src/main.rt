@@ -9,6 +9,7 @@ mod events;
 mod fault;
 mod frames;
 mod game;
+mod hubs;
 mod kernel;
 mod messages;
 mod packs;

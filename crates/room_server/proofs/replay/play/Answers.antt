@@ -2,8 +2,7 @@ use Rattle.std.proofs.Common.{◌∷◌, [], ◌++◌, codes, None}
 use Rattle.outside.proofs.TakeLaws.{longer_front}
 use Rattle.text_model.specs.Marks.{line, lines}
 use Rattle.text_model.specs.Paths.{schema_lines}
-use Rattle.path_hub.specs.PathHub.{hub_of}
-use Rattle.room_server.specs.Turns.{told}
+use Rattle.room_server.specs.Turns.{start, told}
 use Rattle.room_server.proofs.WriteLaws.{writes_err, writes_behind}
 use Rattle.room_server.proofs.replay.play.Goals as goal
 
@@ -11,10 +10,10 @@ pub returns-in_err-write_schema-clause-writes : goal.returns-in_err-write_schema
 returns-in_err-write_schema-clause-writes g c =
     let path = c.args.path.now in
     writes_err _ _ _ _ _ c.from_residual.ensures.1
-    (longer_front _ _ (lines (schema_lines path.class path.fields)) (told path (hub_of path 0 None None) path.items ++ line (codes "end" ∷ [])) c.in_err-write_schema.ensures.writes)
+    (longer_front _ _ (lines (schema_lines path.class path.fields)) (told path (start path) path.items ++ line (codes "end" ∷ [])) c.in_err-write_schema.ensures.writes)
 
 pub returns-clause-writes : goal.returns-clause-writes
 returns-clause-writes g c =
     let path = c.args.path.now in
-    writes_behind c.play_whole.result _ _ _ (lines (schema_lines path.class path.fields)) (told path (hub_of path 0 None None) path.items ++ line (codes "end" ∷ []))
+    writes_behind c.play_whole.result _ _ _ (lines (schema_lines path.class path.fields)) (told path (start path) path.items ++ line (codes "end" ∷ []))
     c.in_ok-write_schema.ensures.writes c.play_whole.ensures.writes

@@ -1,3 +1,0 @@
-pub mod NumberPuts
-pub mod Courses
-pub mod Records

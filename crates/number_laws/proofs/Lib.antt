@@ -1,4 +1,0 @@
-pub mod NumberPatches
-pub mod NumberFrames
-pub mod NumberOps
-pub mod NumbersRead
