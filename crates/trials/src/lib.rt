@@ -5,6 +5,8 @@
 #[cfg(test)]
 mod calls;
 #[cfg(test)]
+mod closed_room;
+#[cfg(test)]
 mod eight;
 #[cfg(test)]
 mod frames;
@@ -12,6 +14,10 @@ mod frames;
 mod game;
 #[cfg(test)]
 mod graphs;
+#[cfg(test)]
+mod hub_script;
+#[cfg(test)]
+mod hubs;
 #[cfg(test)]
 mod limits;
 #[cfg(test)]
