@@ -14,6 +14,7 @@ use Rattle.room_model.specs.declared.definition.RoomDef.{RoomDef}
 use Rattle.room_model.specs.declared.event.RoomEvent.TheVariants as event
 use Rattle.room_model.specs.Ledger.{kept_by}
 use Rattle.room_model.specs.Room.{RoomValue}
+use Rattle.room_laws.specs.Names.{has_session}
 use Rattle.room_laws.specs.Places.{has_place_for}
 use Rattle.schema_model.specs.Classes.{Schema}
 use Rattle.hub_model.specs.declared.conn.HubConn.{HubConn}
@@ -54,6 +55,7 @@ use Rattle.hub_core.proofs.AddedLaws.{Each-last, found_last}
 use Rattle.hub_core.proofs.EachLaws.{Each-found, of_there}
 use Rattle.hub_core.proofs.IdleLaws.{idle, idle_conns, idle_given, idle_rooms}
 use Rattle.hub_core.proofs.PlayLaws.{room_found}
+use Rattle.hub_core.proofs.HomeLaws.{none_has}
 use Rattle.hub_core.proofs.StandsLaws.{found_own}
 use Rattle.hub_core.proofs.TurnLaws.{all_others}
 use Rattle.hub_core.proofs.UnplayedLaws.{all_stay, none_go}
@@ -136,6 +138,21 @@ unused_make h room session def texts none = by_room (is_used h room) none
     by_room : (b : Bool) → None ≡ cond b (Some room) (cond (is_used h session) (Some session) None) → cond b (decision.Refuse 4213 (in_use_text room)) (cond (is_used h session) (decision.Refuse 4213 (in_use_text session)) (decision.Make def)) ≡ decision.Make def
     by_room true none = absurd cc
     by_room false none = by_session (is_used h session) none
+
+-- a session for which a seat is reserved is in no room
+unused_session : (h : HubValue) (session : List ℕ) → None ≡ cond (is_used h session) (Some session) None → is_used h session ≡ false
+unused_session h session none = by_session (is_used h session) none
+  where
+    by_session : (b : Bool) → None ≡ cond b (Some session) None → b ≡ false
+    by_session true none = absurd cc
+    by_session false none = refl
+
+unused_made : (h : HubValue) (room session : List ℕ) (def : ℕ) (texts : List (List ℕ)) → None ≡ used_of (is_used h) (leads.Make def texts) room session → is_used h session ≡ false
+unused_made h room session def texts none = by_room (is_used h room) none
+  where
+    by_room : (b : Bool) → None ≡ cond b (Some room) (cond (is_used h session) (Some session) None) → is_used h session ≡ false
+    by_room true none = absurd cc
+    by_room false none = unused_session h session none
 
 -- the one that is used was drawn
 pub used_drawn : (is_used : List ℕ → Bool) (l : Led) (room session id : List ℕ) → is_id room ≡ true → is_id session ≡ true → Some id ≡ used_of is_used l room session → is_id id ≡ true
@@ -328,6 +345,9 @@ module _ {R : Type 0} (room : R → RoomValue) (Holds : RoomValue → Type 0) (h
           subst (λ o. IfSome o (λ s. has_place_for (room s.room) session ≡ true)) (sym joined_at)
           (reserves.fits u.id (room_in room u) (ap (reserved_in h fresh) joined_is ∙ ap (option_map (λ (r : HubRoom). r.id)) place_is) (Contains-append_left h.rooms (rooms_made h (criteria_of r) fresh (decided (rules_of happens) h target body fresh session)) (room_in room u) (taken_in h.rooms joined.0 (room_in room u) place_is)) (bytes_eq_self u.id))
 
+      pub join_free : Each (λ s. has_session (room s.room) session ≡ false) ss
+      join_free = none_has room session ss (unused_session h session (subst (λ l. None ≡ used_of (is_used h) l fresh session) is unused))
+
       pub takes_joined : (new : Parts R) (before after : List HubOut) → IfSome (find_by serial_of n ss) (λ s. Seated room Holds happens conn session s p new before after) → Takes room Holds happens e p new before after
       takes_joined new before after seated =
           let it = of_there (find_by serial_of n ss) u (λ s. Seated room Holds happens conn session s p new before after) joined_at seated in
@@ -405,6 +425,11 @@ module _ {R : Type 0} (room : R → RoomValue) (Holds : RoomValue → Type 0) (h
             subst (λ o. IfSome o (λ s. has_place_for (room s.room) session ≡ true)) (sym made_at)
             (subst (λ (x : HubRoom). has_place_for x.room session ≡ true) (sym made_room)
             (reserves.fits fresh (room_made h (criteria_of r) fresh def d) (ap (reserved_in h fresh) made_is) (subst (λ rs. Contains (h.rooms ++ rs) (room_made h (criteria_of r) fresh def d)) (sym rooms_are) (Contains-push h.rooms (room_made h (criteria_of r) fresh def d))) (bytes_eq_self fresh)))
+
+        pub made_unused : Each (λ s. has_session (room s.room) session ≡ false) mid.registry.rooms
+        made_unused =
+            subst (Each (λ s. has_session (room s.room) session ≡ false)) (sym it.rooms)
+            (Each-last (λ s. has_session (room s.room) session ≡ false) it.it ss above (none_has room session ss (unused_made h fresh session def texts (subst (λ l. None ≡ used_of (is_used h) l fresh session) is unused))) (ap (λ (r : HubRoom). has_session r.room session) made_room))
 
         with_it : hub_of room mid ≡ with_made h (room_made h (criteria_of r) fresh def d)
         with_it =

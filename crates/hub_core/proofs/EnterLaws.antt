@@ -146,15 +146,15 @@ module _ {R : Type 0} (room : R → RoomValue) (is_spent : R → Bool) (Holds : 
       by_entry false none = were
 
   -- a hub in order stays so
-  pub entered_stands : (conn : ℕ) (middle new : Parts R) → middle.registry ≡ mid → middle.conns ≡ without_all s.id (flat_map ended_by (happens (room s.room) ev).1) (with_newcomer conn) → middle.moment ≡ old.moment → middle.defs ≡ old.defs → middle.process ≡ old.process
+  pub entered_stands : (conn : ℕ) (middle new : Parts R) → middle.registry ≡ mid → middle.conns ≡ without_all s.id (flat_map ended_by (happens (room s.room) ev).1) (with_newcomer conn) → middle.moment ≡ old.moment → middle.defs ≡ old.defs → middle.process ≡ old.process → middle.homes ≡ old.homes
       → IsKept room mid → length mid.shelves.items ≡ length old.registry.shelves.items → AreOrdered mid.rooms → IsKept room left → length left.shelves.items ≡ length mid.shelves.items
-      → new.registry ≡ left → new.conns ≡ middle.conns → new.moment ≡ middle.moment → new.defs ≡ middle.defs → new.process ≡ middle.process → Stands room Holds new
-  entered_stands conn middle new registry conns moment defs process kept count in_order kept_left count_left registry' conns' moment' defs' process' =
-      let order = turn.order_stepped room is_spent Holds happens laws ev n old stood.order ordered s f.at may_is mid behind (with_newcomer conn) (all_may_stay conn) middle registry conns moment defs process kept count (λ k is. absurd cc) in
+      → new.registry ≡ left → new.conns ≡ middle.conns → new.moment ≡ middle.moment → new.defs ≡ middle.defs → new.process ≡ middle.process → new.homes ≡ middle.homes → Stands room Holds new
+  entered_stands conn middle new registry conns moment defs process homes kept count in_order kept_left count_left registry' conns' moment' defs' process' homes' =
+      let order = turn.order_stepped room is_spent Holds happens laws ev n old stood.order ordered s f.at may_is mid behind (with_newcomer conn) (all_may_stay conn) middle registry conns moment defs process homes kept count (λ k is. absurd cc) (λ k is. absurd cc) in
       let others = turn.others_needed room is_spent Holds happens laws ev n old stood.order ordered s f.at may_is mid behind (turn.all_others room n old.registry.rooms stood.needed) in
       stands_left room Holds happens laws n middle new left order
       (subst (λ (g : Registry R). AreOrdered g.rooms) (sym registry) in_order)
       (subst (λ (g : Registry R). IsSome (find_by serial_of n g.rooms)) (sym registry) (ap is_some (stepped_found room is_spent n s old.registry.rooms mid.rooms (happens (room s.room) ev).0 behind f.at)))
       (subst (λ (g : Registry R). Each (λ s. (s.serial == n) ≡ false → IsNeeded room s) g.rooms) (sym registry) others)
       (subst (λ (g : Registry R). IfSome (find_by serial_of n g.rooms) (λ t. left.rooms ≡ (if is_needed (room_in room t) then g.rooms else remove serial_of n g.rooms))) (sym registry) left_are)
-      kept_left (count_left ∙ ap (λ (g : Registry R). length g.shelves.items) (sym registry)) registry' conns' moment' defs' process'
+      kept_left (count_left ∙ ap (λ (g : Registry R). length g.shelves.items) (sym registry)) registry' conns' moment' defs' process' homes'

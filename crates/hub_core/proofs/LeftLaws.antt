@@ -198,11 +198,11 @@ module _ {R : Type 0} (room : R → RoomValue) (Holds : RoomValue → Type 0) (h
       by_need true own = rw own refl
       by_need false gone = rw gone (sym (gone_first room n 0 t rest now.registry.rooms ordered.0 l.rises.1 it.is l.needed gone))
 
-  pub leaving_next : (new : Parts R) → new.registry ≡ left → new.conns ≡ now.conns → new.moment ≡ now.moment → new.schema ≡ now.schema → new.process ≡ now.process → new.defs ≡ now.defs → Leaving room Holds rest old new before more
-  leaving_next new registry conns moment schema process defs = record {
+  pub leaving_next : (new : Parts R) → new.registry ≡ left → new.conns ≡ now.conns → new.moment ≡ now.moment → new.schema ≡ now.schema → new.process ≡ now.process → new.defs ≡ now.defs → new.homes ≡ now.homes → Leaving room Holds rest old new before more
+  leaving_next new registry conns moment schema process defs homes = record {
     rooms = ap (λ (g : Registry R). filter is_needed (rooms_in room g.rooms)) registry ∙ (rooms_now ∙ l.rooms);
     tells = ap₂ (λ m (g : Registry R). m ++ disposals (rooms_in room g.rooms)) tells registry ∙ (append_assoc told (disposals (room_in room t ∷ [])) (disposals (rooms_in room left.rooms)) ∙ (ap (λ x. told ++ x) told_now ∙ l.tells));
-    order = order_left room Holds happens laws now l.order ordered n t it.is left it.holds new registry conns moment defs process kept count;
+    order = order_left room Holds happens laws now l.order ordered n t it.is left it.holds new registry conns moment defs process homes kept count;
     there = λ m h. subst (λ (g : Registry R). IsSome (find_by serial_of m g.rooms)) (sym registry) (there_now m h);
     needed = subst (λ (g : Registry R). NeededBut room rest g.rooms) (sym registry) needed_now;
     rises = from_there n 0 rest l.rises;

@@ -6,11 +6,13 @@ pub mod EachLaws
 pub mod EndLaws
 pub mod EnterLaws
 pub mod EventLaws
+pub mod HomeLaws
 pub mod IdleLaws
 pub mod LapseLaws
 pub mod LapsedLaws
 pub mod LedLaws
 pub mod LeftLaws
+pub mod LookLaws
 pub mod MomentLaws
 pub mod NotedLaws
 pub mod OpeningLaws

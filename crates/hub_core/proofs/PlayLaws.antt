@@ -192,8 +192,8 @@ module _ {R : Type 0} (room : R → RoomValue) (is_spent : R → Bool) (Holds : 
       told_plainly room is_spent Holds happens laws id ev n old mid.registry left given stood ordered f may gives stepped left_are before middle behind_it (turned.told ∙ ap (λ k. before ++ flat_map (told_out old.conns k) given) own_name) told
 
   pub stands_played : (new : Parts R) → InOrder room Holds mid → AreOrdered mid.registry.rooms → IsKept room left → length left.shelves.items ≡ length mid.registry.shelves.items
-      → new.registry ≡ left → new.conns ≡ mid.conns → new.moment ≡ mid.moment → new.defs ≡ mid.defs → new.process ≡ mid.process → Stands room Holds new
-  stands_played new order in_order kept count registry conns moment defs process =
+      → new.registry ≡ left → new.conns ≡ mid.conns → new.moment ≡ mid.moment → new.defs ≡ mid.defs → new.process ≡ mid.process → new.homes ≡ mid.homes → Stands room Holds new
+  stands_played new order in_order kept count registry conns moment defs process homes =
       stands_left room Holds happens laws n mid new left order in_order (ap is_some (stepped_found room is_spent n f.it old.registry.rooms mid.registry.rooms (happens (room f.it.room) ev).0 turned.stepped f.at))
       (others_needed room is_spent Holds happens laws ev n old stood.order ordered f.it f.at (of_there (find (has_id id) old.registry.rooms) f.it (λ s. IsTrue (may_happen (room s.room) ev)) f.is may) mid.registry turned.stepped (all_others room n old.registry.rooms stood.needed))
-      left_are kept count registry conns moment defs process
+      left_are kept count registry conns moment defs process homes

@@ -1,5 +1,5 @@
 -- Rooms found by their ids: what adding one and taking one out makes of it.
-use Rattle.std.proofs.Common.{◌≡◌, ℕ, suc, ◌<◌, ◌++◌, Bool, true, false, List, [], ◌∷◌, Option, Some, None, cond, refl, sym, ap, subst, ◌∙◌, arith}
+use Rattle.std.proofs.Common.{◌≡◌, ℕ, suc, zero-le, ◌<◌, ◌++◌, Bool, true, false, List, [], ◌∷◌, Option, Some, None, cond, refl, sym, ap, subst, ◌∙◌, arith}
 use Rattle.std.specs.List.{find}
 use Rattle.std.specs.Option.{option_map}
 use Rattle.std.specs.BTreeMap.{is_at}
@@ -12,11 +12,11 @@ use Rattle.std.proofs.lemmas.Bool.Decides.{nat_tests}
 use Rattle.std.proofs.lemmas.Map.Text.{is_eq-slice_cmp}
 use Rattle.std.proofs.lemmas.Slice.Eq.{bytes_eq-Decides}
 use Rattle.lists.specs.Rising.{IsAbove, RisesFrom, find as find_by, put, remove}
-use Rattle.lists.proofs.RisingLaws.{find_below, remove_missing}
+use Rattle.lists.proofs.RisingLaws.{IsAbove-put, RisesFrom-put, find_below, find_key, remove_missing}
 use Rattle.lists.proofs.SameBytes.{same_bytes}
 use Rattle.trees.specs.Trees.{entry_values, IsKeyed}
 use Rattle.hub_core.specs.declared.stood.Stood.{Stood}
-use Rattle.hub_core.specs.Stood.{AreAlone, AreIds, has_id, serial_of}
+use Rattle.hub_core.specs.Stood.{AreAlone, AreIds, AreRooms, has_id, serial_of}
 
 -- a room that is added at the end is found there
 pub find_last : {R : Type 0} (s : Stood R) (ss : List (Stood R)) (id : List ℕ) → find (has_id s.id) ss ≡ None → find (has_id id) (ss ++ s ∷ []) ≡ cond (bytes_eq s.id id) (Some s) (find (has_id id) ss)
@@ -131,6 +131,30 @@ AreIds-put s t ss es rises found same ids q = ids q ∙ sym (same_found 0 s t ss
 pub find_high : {X : Type 0} (key : X → ℕ) (high k : ℕ) (x : X) (xs : List X) → IsAbove key high xs → find_by key k xs ≡ Some x → key x < high
 find_high key high k x [] below found = absurd cc
 find_high key high k x (y ∷ xs) below found = grind (arith, nat_tests, below.0, found, find_high key high k x xs below.1)
+
+-- and so are all that are kept
+pub record AreSet {R : Type 0} (t : Stood R) (es fs : List (ℕ × Stood R)) (ids : List (List ℕ × ℕ)) (next : ℕ) : Type 0 where
+  pub rooms : AreRooms fs ids next
+  pub values : entry_values fs ≡ put serial_of t (entry_values es)
+
+pub rooms_set : {R : Type 0} (k : ℕ) (s t : Stood R) (es fs : List (ℕ × Stood R)) (ids : List (List ℕ × ℕ)) (next : ℕ) → AreRooms es ids next → find_by serial_of k (entry_values es) ≡ Some s → t.serial ≡ s.serial → s.id ≡ t.id → fs ≡ set_value (is_at (nat_cmp k)) es t
+    → AreSet t es fs ids next
+rooms_set {R = R} k s t es fs ids next rooms at number same set =
+    let ss = entry_values es in
+    let key : t.serial ≡ k = number ∙ find_key serial_of k ss s at in
+    let own : find_by serial_of t.serial ss ≡ Some s = subst (λ m. find_by serial_of m ss ≡ Some s) (sym key) at in
+    let values : entry_values fs ≡ put serial_of t ss = ap entry_values set ∙ values-set serial_of 0 k s t es rooms.keyed rooms.rises key at in
+    let low : t.serial < next = subst (λ m. m < next) (sym number) (find_high serial_of next k s ss rooms.below at) in
+    record {
+      rooms = record {
+        keyed = rw set (IsKeyed-set serial_of k t es rooms.keyed key);
+        rises = rw values (RisesFrom-put serial_of 0 t ss rooms.rises zero-le);
+        below = rw values (IsAbove-put serial_of next t ss rooms.below low);
+        alone = rw values (AreAlone-put 0 s t ss rooms.rises rooms.alone own same);
+        found = rw values (AreIds-put s t ss ids rooms.rises own same rooms.found);
+      };
+      values = values;
+    }
 
 -- ---- of results
 

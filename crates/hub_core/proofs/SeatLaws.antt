@@ -31,6 +31,7 @@ use Rattle.hub_model.specs.Replies.{seat_reply}
 use Rattle.hub_core.specs.declared.parts.Parts.{Parts}
 use Rattle.hub_core.specs.declared.registry.Registry.{Registry}
 use Rattle.hub_core.specs.declared.stood.Stood.{Stood}
+use Rattle.hub_core.specs.Homes.{IsHoused}
 use Rattle.hub_core.specs.Hubs.{InOrder, IsGood, IsNeeded, hub_of, is_of_one}
 use Rattle.hub_core.specs.Lapsed.{told_of}
 use Rattle.hub_core.specs.Lawful.{Lawful}
@@ -75,11 +76,14 @@ reply_same h r session name l is named = ap₂ (λ (l : Listing) n. seat_reply l
 
 module _ {R : Type 0} (room : R → RoomValue) (Holds : RoomValue → Type 0) (begins : (schema : Schema) (def : RoomDef) (criteria : List (List ℕ)) → Holds (new_room schema def criteria)) (d : RoomDef) (at : ℕ) (criteria : List (List ℕ)) (id : List ℕ) (old : Parts R) (order : InOrder room Holds old) (it : Stood R)
     (is : room_in room it ≡ room_made (hub_of room old) criteria id at d) (above : IsAbove serial_of it.serial old.registry.rooms) (named : is_id id ≡ true) where
+  pub free_made : (n : List ℕ) → has_session (room it.room) n ≡ false
+  free_made n = ap (λ (r : HubRoom). has_session r.room n) is
+
   made_good : IsGood room Holds it
   made_good = record {
     holds = subst Holds (sym (ap (λ (r : HubRoom). r.room) is)) (begins old.schema d criteria);
     named = ap (λ (r : HubRoom). is_id r.id) is ∙ named;
-    sessions = λ n h. absurd (let none : has_session (room it.room) n ≡ false = ap (λ (r : HubRoom). has_session r.room n) is in cc);
+    sessions = λ n h. absurd (let none : has_session (room it.room) n ≡ false = free_made n in cc);
   }
 
   -- connections stay those of connected sessions
@@ -99,8 +103,8 @@ module _ {R : Type 0} (room : R → RoomValue) (Holds : RoomValue → Type 0) (b
       let parts = and_parts (is_of_one room old.registry.rooms c) (list_all (is_of_one room old.registry.rooms) cs) h in
       rw (still_of c parts.0) (all_of cs parts.1)
 
-  pub order_added : (new : Parts R) → new.registry.rooms ≡ old.registry.rooms ++ it ∷ [] → IsKept room new.registry → length new.registry.shelves.items ≡ length old.registry.shelves.items → new.conns ≡ old.conns → new.moment ≡ old.moment → new.defs ≡ old.defs → new.process ≡ old.process → InOrder room Holds new
-  order_added new rooms kept count conns moment defs process = record {
+  pub order_added : (new : Parts R) → new.registry.rooms ≡ old.registry.rooms ++ it ∷ [] → IsKept room new.registry → length new.registry.shelves.items ≡ length old.registry.shelves.items → new.conns ≡ old.conns → new.moment ≡ old.moment → new.defs ≡ old.defs → new.process ≡ old.process → new.homes ≡ old.homes → InOrder room Holds new
+  order_added new rooms kept count conns moment defs process homes = record {
     kept = kept;
     shelves = count ∙ (order.shelves ∙ ap length (sym defs));
     rooms = subst (Each (IsGood room Holds)) (sym rooms) (Each-last (IsGood room Holds) it old.registry.rooms above order.rooms made_good);
@@ -109,6 +113,7 @@ module _ {R : Type 0} (room : R → RoomValue) (Holds : RoomValue → Type 0) (b
     few = rw defs order.few;
     forms = rw defs order.forms;
     process = rw process order.process;
+    housed = subst (Each (IsHoused room new.homes)) (sym rooms) (subst (λ hs. Each (IsHoused room hs) (old.registry.rooms ++ it ∷ [])) (sym homes) (Each-last (IsHoused room old.homes) it old.registry.rooms above order.housed (λ n h. absurd (let none : has_session (room it.room) n ≡ false = free_made n in cc))));
   }
 
 -- ---- a reservation
@@ -204,8 +209,8 @@ module _ {R : Type 0} (room : R → RoomValue) (is_spent : R → Bool) (Holds : 
   disposed_is = sym (stepped.disposed_behind room happens es ev s old.registry.rooms ordered own_at quiet own t turned.stepped.serial turned.stepped.is needed_but)
 
   pub seated : (new : Parts R) (after : List HubOut) → IfSome (find_by serial_of n mid.registry.rooms) (λ t. after ≡ replied ++ disposals (room_in room t ∷ [])) → InOrder room Holds mid → AreOrdered mid.registry.rooms → IsKept room left → length left.shelves.items ≡ length mid.registry.shelves.items
-      → new.registry ≡ left → new.conns ≡ mid.conns → new.moment ≡ mid.moment → new.schema ≡ mid.schema → new.process ≡ mid.process → new.defs ≡ mid.defs → Seated room Holds happens conn session s old new before after
-  seated new after after_is order_mid ordered_mid kept count registry conns moment schema process defs = record {
+      → new.registry ≡ left → new.conns ≡ mid.conns → new.moment ≡ mid.moment → new.schema ≡ mid.schema → new.process ≡ mid.process → new.defs ≡ mid.defs → new.homes ≡ mid.homes → Seated room Holds happens conn session s old new before after
+  seated new after after_is order_mid ordered_mid kept count registry conns moment schema process defs homes = record {
     hub = rw (ap (λ (g : Registry R). g.rooms) registry, conns, moment, schema, process, defs, turned.moment, turned.schema, turned.process, turned.defs) (ap₂ (λ rs cs. record { now = old.moment; schema = old.schema; process = old.process; defs = old.defs; rooms = rs; conns = cs }) rooms_left conns_are);
     told =
         of_there (find_by serial_of n mid.registry.rooms) t (λ t. after ≡ replied ++ disposals (room_in room t ∷ [])) now_at after_is
@@ -213,5 +218,5 @@ module _ {R : Type 0} (room : R → RoomValue) (is_spent : R → Bool) (Holds : 
         ∙ ap₂ (λ m r. (m ++ r ∷ []) ++ disposals (map (λ (d : Dealt). d.room) ds)) (turned.told ∙ ap (λ l. before ++ l) told_is) reply_is
         ∙ append_assoc (before ++ told_of old.conns ds) (seat_out h conn session s.id (map (λ (d : Dealt). d.room) ds) ∷ []) (disposals (map (λ (d : Dealt). d.room) ds))
         ∙ append_assoc before (told_of old.conns ds) (seat_out h conn session s.id (map (λ (d : Dealt). d.room) ds) ∷ disposals (map (λ (d : Dealt). d.room) ds));
-    stands = stands_left room Holds happens laws n mid new left order_mid ordered_mid (ap is_some now_at) others left_are kept count registry conns moment defs process;
+    stands = stands_left room Holds happens laws n mid new left order_mid ordered_mid (ap is_some now_at) others left_are kept count registry conns moment defs process homes;
   }

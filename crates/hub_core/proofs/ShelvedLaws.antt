@@ -16,7 +16,7 @@ abbrev pub IsSameRoom : {R : Type 0} → Stood R → Stood R → Type 0
 IsSameRoom s t = (t.serial ≡ s.serial) × (t.id ≡ s.id) × (t.def ≡ s.def) × (t.criteria ≡ s.criteria)
 
 -- rooms of higher numbers stay as they are shown
-none_above : {R : Type 0} (room : R → RoomValue) (d n low : ℕ) (locked : Bool) (used most : ℕ) (ss : List (Stood R)) → RisesFrom serial_of low ss → n < low → map (renewed n locked used most) (shelf_of room d ss) ≡ shelf_of room d ss
+pub none_above : {R : Type 0} (room : R → RoomValue) (d n low : ℕ) (locked : Bool) (used most : ℕ) (ss : List (Stood R)) → RisesFrom serial_of low ss → n < low → map (renewed n locked used most) (shelf_of room d ss) ≡ shelf_of room d ss
 none_above room d n low locked used most [] rises less = refl
 none_above room d n low locked used most (s ∷ ss) rises less = shown_by (s.def == d) (none_above room d n (suc s.serial) locked used most ss rises.1 (grind (arith, rises.0, less)))
   where
@@ -27,7 +27,7 @@ none_above room d n low locked used most (s ∷ ss) rises less = shown_by (s.def
     shown_by false rest = rest
 
 -- a room in front that stays as it is shown
-in_front : {R : Type 0} (room : R → RoomValue) (f : Shown → Shown) (b : Bool) (x : Stood R) (l r : List (Stood R)) → f (shown_of room x) ≡ shown_of room x → map f (map (shown_of room) l) ≡ map (shown_of room) r
+pub in_front : {R : Type 0} (room : R → RoomValue) (f : Shown → Shown) (b : Bool) (x : Stood R) (l r : List (Stood R)) → f (shown_of room x) ≡ shown_of room x → map f (map (shown_of room) l) ≡ map (shown_of room) r
     → map f (map (shown_of room) (cond b (x ∷ l) l)) ≡ map (shown_of room) (cond b (x ∷ r) r)
 in_front room f true x l r same rest = ap₂ (λ a b. a ∷ b) same rest
 in_front room f false x l r same rest = rest

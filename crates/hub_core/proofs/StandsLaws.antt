@@ -24,6 +24,7 @@ use Rattle.hub_core.specs.declared.parts.Parts.{Parts}
 use Rattle.hub_core.specs.declared.registry.Registry.{Registry}
 use Rattle.hub_core.specs.declared.stood.Stood.{Stood}
 use Rattle.hub_core.specs.Endings.{ended_by, is_of, without_all}
+use Rattle.hub_core.specs.Homes.{IsHoused}
 use Rattle.hub_core.specs.Hubs.{InOrder, IsGood, IsNeeded, Stands, is_of_one}
 use Rattle.hub_core.specs.Lawful.{Lawful}
 use Rattle.hub_core.specs.Registered.{IsKept}
@@ -35,7 +36,7 @@ use Rattle.hub_core.proofs.RoomLaws.{find_without}
 -- ---- rooms by their ids
 
 -- what isn't found isn't the one of a number
-missed : {R : Type 0} (p : Stood R → Bool) (n : ℕ) (s : Stood R) (ss : List (Stood R)) → find p ss ≡ None → find_by serial_of n ss ≡ Some s → p s ≡ false
+pub missed : {R : Type 0} (p : Stood R → Bool) (n : ℕ) (s : Stood R) (ss : List (Stood R)) → find p ss ≡ None → find_by serial_of n ss ≡ Some s → p s ≡ false
 missed p n s [] none found = absurd cc
 missed {R = R} p n s (x ∷ ss) none found = by_first (p x) refl none (x.serial == n) refl found (λ rest found. missed p n s ss rest found)
   where
@@ -272,8 +273,8 @@ module _ {R : Type 0} (room : R → RoomValue) (Holds : RoomValue → Type 0) (h
       by_need true = all
       by_need false = Each-remove P n old.registry.rooms all
 
-  pub order_left : (new : Parts R) → new.registry ≡ left → new.conns ≡ old.conns → new.moment ≡ old.moment → new.defs ≡ old.defs → new.process ≡ old.process → IsKept room left → length left.shelves.items ≡ length old.registry.shelves.items → InOrder room Holds new
-  order_left new registry conns moment defs process kept count = record {
+  pub order_left : (new : Parts R) → new.registry ≡ left → new.conns ≡ old.conns → new.moment ≡ old.moment → new.defs ≡ old.defs → new.process ≡ old.process → new.homes ≡ old.homes → IsKept room left → length left.shelves.items ≡ length old.registry.shelves.items → InOrder room Holds new
+  order_left new registry conns moment defs process homes kept count = record {
     kept = rw registry kept;
     shelves = ap (λ (g : Registry R). length g.shelves.items) registry ∙ (count ∙ (order.shelves ∙ ap length (sym defs)));
     rooms = subst (λ (g : Registry R). Each (IsGood room Holds) g.rooms) (sym registry) (each_left (IsGood room Holds) order.rooms);
@@ -282,6 +283,7 @@ module _ {R : Type 0} (room : R → RoomValue) (Holds : RoomValue → Type 0) (h
     few = rw defs order.few;
     forms = rw defs order.forms;
     process = rw process order.process;
+    housed = subst (λ (g : Registry R). Each (IsHoused room new.homes) g.rooms) (sym registry) (subst (λ hs. Each (IsHoused room hs) left.rooms) (sym homes) (each_left (IsHoused room old.homes) order.housed));
   }
 
   -- where the others were needed, all are
@@ -296,10 +298,10 @@ module _ {R : Type 0} (room : R → RoomValue) (Holds : RoomValue → Type 0) (h
 pub stands_left : {R : Type 0} (room : R → RoomValue) (Holds : RoomValue → Type 0) (happens : RoomStep) (laws : Lawful Holds happens) (n : ℕ) (old new : Parts R) (left : Registry R) → InOrder room Holds old → AreOrdered old.registry.rooms
     → IsSome (find_by serial_of n old.registry.rooms) → Each (λ s. (s.serial == n) ≡ false → IsNeeded room s) old.registry.rooms
     → IfSome (find_by serial_of n old.registry.rooms) (λ t. left.rooms ≡ (if is_needed (room_in room t) then old.registry.rooms else remove serial_of n old.registry.rooms))
-    → IsKept room left → length left.shelves.items ≡ length old.registry.shelves.items → new.registry ≡ left → new.conns ≡ old.conns → new.moment ≡ old.moment → new.defs ≡ old.defs → new.process ≡ old.process → Stands room Holds new
-stands_left room Holds happens laws n old new left order ordered some others left_are kept count registry conns moment defs process =
+    → IsKept room left → length left.shelves.items ≡ length old.registry.shelves.items → new.registry ≡ left → new.conns ≡ old.conns → new.moment ≡ old.moment → new.defs ≡ old.defs → new.process ≡ old.process → new.homes ≡ old.homes → Stands room Holds new
+stands_left room Holds happens laws n old new left order ordered some others left_are kept count registry conns moment defs process homes =
     let it = there (find_by serial_of n old.registry.rooms) (λ t. left.rooms ≡ (if is_needed (room_in room t) then old.registry.rooms else remove serial_of n old.registry.rooms)) some left_are in
     record {
-      order = order_left room Holds happens laws old order ordered n it.it it.is left it.holds new registry conns moment defs process kept count;
+      order = order_left room Holds happens laws old order ordered n it.it it.is left it.holds new registry conns moment defs process homes kept count;
       needed = rw registry (needed_left room Holds happens laws old order ordered n it.it it.is left it.holds others);
     }

@@ -17,11 +17,13 @@ use Rattle.hub_core.specs.declared.parts.Parts.{Parts}
 use Rattle.hub_core.specs.declared.registry.Registry.{Registry}
 use Rattle.hub_core.specs.declared.stood.Stood.{Stood}
 use Rattle.hub_core.specs.Endings.{ended_by, without_all}
+use Rattle.hub_core.specs.Homes.{IsHoused, home_in}
 use Rattle.hub_core.specs.Hubs.{InOrder, IsGood, IsNeeded, is_of_one}
 use Rattle.hub_core.specs.Lawful.{Lawful}
 use Rattle.hub_core.specs.Registered.{IsKept}
 use Rattle.hub_core.specs.Stood.{AreOrdered, Each, IsStepped, has_id, serial_of}
 use Rattle.hub_core.proofs.EachLaws.{Each-put, Each-weaker, of_there}
+use Rattle.hub_core.proofs.HomeLaws.{housed_stepped}
 use Rattle.hub_core.proofs.StandsLaws as stands
 use Rattle.hub_core.proofs.StandsLaws.{found_own}
 
@@ -58,9 +60,9 @@ module _ {R : Type 0} (room : R → RoomValue) (is_spent : R → Bool) (Holds : 
   pub were_there : (cs : List HubConn) → list_all (is_of_one room old.registry.rooms) cs ≡ true → list_all may_stay cs ≡ true
   were_there = stands.were_there room Holds happens laws ev s t old.registry.rooms ordered found there_is same now good may
 
-  pub order_stepped : (cs : List HubConn) → list_all may_stay cs ≡ true → (new : Parts R) → new.registry ≡ mid → new.conns ≡ without_all s.id (flat_map ended_by outs) cs → new.moment ≡ old.moment → new.defs ≡ old.defs → new.process ≡ old.process
-      → IsKept room mid → length mid.shelves.items ≡ length old.registry.shelves.items → ((k : List ℕ) → reserves ev ≡ Some k → is_id k ≡ true) → InOrder room Holds new
-  order_stepped cs all new registry conns moment defs process kept count reserved =
+  pub order_stepped : (cs : List HubConn) → list_all may_stay cs ≡ true → (new : Parts R) → new.registry ≡ mid → new.conns ≡ without_all s.id (flat_map ended_by outs) cs → new.moment ≡ old.moment → new.defs ≡ old.defs → new.process ≡ old.process → new.homes ≡ old.homes
+      → IsKept room mid → length mid.shelves.items ≡ length old.registry.shelves.items → ((k : List ℕ) → reserves ev ≡ Some k → is_id k ≡ true) → ((k : List ℕ) → reserves ev ≡ Some k → home_in k old.homes ≡ Some n) → InOrder room Holds new
+  order_stepped cs all new registry conns moment defs process homes kept count reserved housed =
       let rooms : new.registry.rooms ≡ put serial_of t old.registry.rooms = ap (λ (g : Registry R). g.rooms) registry ∙ behind.rooms in
       record {
         kept = rw registry kept;
@@ -71,6 +73,10 @@ module _ {R : Type 0} (room : R → RoomValue) (is_spent : R → Bool) (Holds : 
         few = rw defs order.few;
         forms = rw defs order.forms;
         process = rw process order.process;
+        housed =
+            rw (rooms, homes)
+            (housed_stepped room old.homes ev (happens (room s.room) ev).0 s t old.registry.rooms (laws.names (room s.room) ev good.holds may) now behind.serial (λ k is. housed k is ∙ ap Some (sym number))
+            (of_there (find_by serial_of n old.registry.rooms) s (IsHoused room old.homes) at (order.housed n)) order.housed);
       }
 
   -- the others are needed as before

@@ -12,6 +12,7 @@ use Rattle.hub_model.specs.HubValues.{HubValue}
 use Rattle.hub_model.specs.Ids.{is_id}
 use Rattle.hub_core.specs.declared.parts.Parts.{Parts}
 use Rattle.hub_core.specs.declared.stood.Stood.{Stood}
+use Rattle.hub_core.specs.Homes.{IsHoused}
 use Rattle.hub_core.specs.Registered.{IsKept}
 use Rattle.hub_core.specs.Stood.{Each, has_id, room_in, rooms_in}
 
@@ -39,6 +40,7 @@ pub record InOrder {R : Type 0} (room : R → RoomValue) (Holds : RoomValue → 
   pub few : length p.defs < 2 ^ 32
   pub forms : list_all is_room_def p.defs ≡ true
   pub process : is_id p.process ≡ true
+  pub housed : Each (IsHoused room p.homes) p.registry.rooms
 
 -- a place of the room is in use
 abbrev pub IsNeeded : {R : Type 0} → (R → RoomValue) → Stood R → Type 0

@@ -1,11 +1,13 @@
 pub mod Conns
 pub mod Endings
+pub mod Held
+pub mod Homes
+pub mod Hubs
 pub mod Lapsed
 pub mod Lapses
-pub mod Led
-pub mod Held
-pub mod Hubs
 pub mod Lawful
+pub mod Led
+pub mod Looks
 pub mod Noted
 pub mod Played
 pub mod Registered

@@ -4,6 +4,7 @@ use Rattle.lists.specs.Rising.{remove}
 use Rattle.room_model.specs.Room.{RoomValue}
 use Rattle.room_model.specs.Seats.{in_use}
 use Rattle.hub_model.specs.HubValues.{listing_of}
+use Rattle.hub_core.specs.declared.look.Look.{Look}
 use Rattle.hub_core.specs.declared.stood.Stood.{Stood}
 use Rattle.hub_core.specs.Shelves.{Shown, number_of, renewed}
 use Rattle.hub_core.specs.Stood.{room_in}
@@ -35,6 +36,10 @@ now_shown room t = renewed t.serial (room t.room).seats.locked (in_use (room t.r
 -- its shelf has it as it is now
 abbrev pub Shows : {R : Type 0} → (R → RoomValue) → Stood R → List (List Shown) → List (List Shown) → Type 0
 Shows room t olds news = IfSome (slice_get olds t.def) (λ shelf. news ≡ set olds t.def (map (now_shown room t) shelf))
+
+-- the shelf of its definition has the room of a number as it looks
+abbrev pub Renews : ℕ → Look → List (List Shown) → List (List Shown) → Type 0
+Renews n look olds news = IfSome (slice_get olds look.def) (λ shelf. news ≡ set olds look.def (map (renewed n look.locked look.in_use look.max) shelf))
 
 -- the shelf of a room that is there is without it
 abbrev pub Hides : {R : Type 0} → ℕ → Option (Stood R) → List (List Shown) → List (List Shown) → Type 0

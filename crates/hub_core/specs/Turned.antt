@@ -19,3 +19,4 @@ pub record Turned {R : Type 0} (room : R → RoomValue) (is_spent : R → Bool) 
   pub schema : new.schema ≡ old.schema
   pub process : new.process ≡ old.process
   pub defs : new.defs ≡ old.defs
+  pub homes : new.homes ≡ old.homes

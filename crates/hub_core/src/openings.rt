@@ -14,6 +14,7 @@ ghost use Rattle.hub_core.specs.Stood.{has_id, serial_of};
 ghost use Rattle.hub_core.specs.Takes.{Takes};
 
 use crate::conns::Conns;
+use crate::look::Turn;
 use crate::parts::Parts;
 use crate::refuse::refuse_opening;
 use crate::tell::{end_all, ended, tell_opened};
@@ -93,7 +94,7 @@ impl<R: RoomLike> Parts<R> {
             return Ok(());
         };
         let event = RoomEvent::Enter(opening.session, opening.token, fresh);
-        let outs = self.registry.step(serial, &event, steps)?;
+        let Turn { outs, now, .. } = self.registry.step(serial, &event, steps)?;
         connect(&mut self.conns, conn, opening, outs.as_slice())?;
         let sessions = ended(self.alloc, outs.as_slice())?;
         tell_opened(
@@ -106,7 +107,7 @@ impl<R: RoomLike> Parts<R> {
             told,
         )?;
         end_all(&mut self.conns, opening.room, sessions.as_slice());
-        self.registry.dispose(serial, told)
+        self.registry.dispose_as(serial, &now, told)
     }
 }
 

@@ -8,12 +8,16 @@ ghost use Rattle.room_laws.specs.Places.{may_happen};
 ghost use Rattle.room_laws.specs.StepLaws.{opens};
 ghost use Rattle.hub_model.specs.HubValues.{new_hub};
 ghost use Rattle.hub_model.specs.Ids.{is_id};
+ghost use Rattle.hub_core.specs.Homes.{home_in};
 ghost use Rattle.hub_core.specs.Hubs.{InOrder, Stands, hub_of};
+ghost use Rattle.hub_core.specs.Looks.{IsLook};
 ghost use Rattle.hub_core.specs.Played.{played_in};
 ghost use Rattle.hub_core.specs.Stood.{AreOrdered, has_id, serial_of};
 ghost use Rattle.hub_core.specs.Turned.{Turned};
 
 use crate::conns::Conns;
+use crate::homes::Homes;
+use crate::look::{Look, Turn};
 use crate::registry::Registry;
 use crate::tell::{end_all, ended, tell_all};
 use hub_model::{HubOut, HubOuts};
@@ -25,7 +29,8 @@ use std::alloc::Global;
 use std::sync::ledger::Ledger;
 use steps::Steps;
 
-/// The moment, what the hub was made with, its rooms with what is noted of them, and its connections.
+/// The moment, what the hub was made with, its rooms with what is noted of them, its connections, and where sessions were
+/// reserved.
 #[derive(Drop)]
 pub struct Parts<R> {
     pub alloc: Global,
@@ -35,6 +40,7 @@ pub struct Parts<R> {
     pub defs: Defs,
     pub registry: Registry<R>,
     pub conns: Conns,
+    pub homes: Homes,
 }
 
 impl<R: RoomLike> Parts<R> {
@@ -55,6 +61,7 @@ impl<R: RoomLike> Parts<R> {
             defs,
             registry,
             conns: Conns::new(alloc),
+            homes: Homes::new(alloc),
         })
     }
 
@@ -77,35 +84,33 @@ impl<R: RoomLike> Parts<R> {
         let Some(serial) = self.registry.rooms.serial_of(room) else {
             return told.push(HubOut::Refused(Refusal::NoRoom));
         };
-        self.happen(serial, event, told, steps)?;
-        self.registry.dispose(serial, told)
+        let now = self.happen(serial, event, told, steps)?;
+        self.registry.dispose_as(serial, &now, told)
     }
 
     /// An event of the room of a number, which opens nothing: what the room gives is told, and the connections that it ends
-    /// are gone. The room stays, also where no place of it is in use any more.
+    /// are gone. The room stays, also where no place of it is in use any more; how it looks is given.
     pub fn happen<L: Ledger>(
         &mut self,
         serial: u64,
         event: &RoomEvent,
         told: &mut HubOuts,
         steps: &mut Steps<L>,
-    ) -> Result<(), Memory>
+    ) -> Result<Look, Memory>
         requires order { InOrder R.room R.Holds self.old }
         requires there { IsSome (find_by serial_of serial self.old.registry.rooms) }
         requires happen { IfSome (find_by serial_of serial self.old.registry.rooms) (λ s. IsTrue (may_happen (R.room s.room) event.now)) }
         requires names { (id : List ℕ) → reserves event.now ≡ Some id → is_id id ≡ true }
+        requires homes { (id : List ℕ) → reserves event.now ≡ Some id → home_in id self.old.homes ≡ Some serial }
         ensures ordered { AreOrdered self.old.registry.rooms }
         ensures turned { OnOk result (IfSome (find_by serial_of serial self.old.registry.rooms) (λ s. Turned R.room R.is_spent R.happens event.now s self.old self.new told.old told.new)) }
+        ensures look { IfOk result (λ look. IfSome (find_by serial_of serial self.new.registry.rooms) (λ t. IsLook R.room t look)) }
         ensures order { OnOk result (InOrder R.room R.Holds self.new) }
     {
-        let Some(stood) = self.registry.rooms.get(serial) else {
-            return Ok(());
-        };
-        let room = stood.id;
-        let outs = self.registry.step(serial, event, steps)?;
+        let Turn { outs, now, .. } = self.registry.step(serial, event, steps)?;
         let sessions = ended(self.alloc, outs.as_slice())?;
-        tell_all(&self.conns, room, outs, told)?;
-        end_all(&mut self.conns, room, sessions.as_slice());
-        Ok(())
+        tell_all(&self.conns, now.id, outs, told)?;
+        end_all(&mut self.conns, now.id, sessions.as_slice());
+        Ok(now)
     }
 }

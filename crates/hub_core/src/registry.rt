@@ -1,24 +1,25 @@
 //! The rooms of a hub, with what is noted of them.
-ghost use Rattle.std.specs.Prelude.{◌≡◌, ◌+◌, ◌≤◌, ◌<◌, ◌++◌, ◌∷◌, [], None, true, false, if◌then◌else◌, length, set, slice_get, IfOk, IfSome, IsSome, IsTrue, OnOk};
+ghost use Rattle.std.specs.Prelude.{◌≡◌, ◌+◌, ◌≤◌, ◌<◌, ◌++◌, ◌∷◌, [], None, true, false, if◌then◌else◌, length, set, slice_get, IfNone, IfOk, IfSome, IsSome, IsTrue, OnOk};
 ghost use Rattle.std.specs.List.{find};
 ghost use Rattle.lists.specs.Rising.{IsAbove, find as find_by, remove};
 ghost use Rattle.room_laws.specs.Places.{may_happen};
 ghost use Rattle.hub_model.specs.HubStep.{disposals, is_needed};
 ghost use Rattle.hub_core.specs.Lapses.{has_lapse};
-ghost use Rattle.hub_core.specs.Noted.{IsNextOf, IsRenoted};
+ghost use Rattle.hub_core.specs.Looks.{IsLook, looks_same};
+ghost use Rattle.hub_core.specs.Noted.{Exchanged, IsNextOf};
 ghost use Rattle.hub_core.specs.Registered.{IsKept};
-ghost use Rattle.hub_core.specs.Shelved.{AreEmpty, Hides, Shows};
+ghost use Rattle.hub_core.specs.Shelved.{AreEmpty, Hides, Renews};
 ghost use Rattle.hub_core.specs.Shelves.{number_of};
 ghost use Rattle.hub_core.specs.Stood.{AreOrdered, IsStepped, has_id, room_in, serial_of};
 
 use crate::lapses::Lapses;
+use crate::look::{Look, Turn};
 use crate::rooms::Rooms;
 use crate::shelf::Shelf;
-use crate::stood::Stood;
 use hub_model::{HubOut, HubOuts, Listing};
 use lists::Memory;
 use room_like::RoomLike;
-use room_model::{RoomEvent, RoomOuts, Texts, copy_texts};
+use room_model::{RoomEvent, Texts, copy_texts};
 use schema_model::Id;
 use std::alloc::Global;
 use std::sync::ledger::Ledger;
@@ -52,38 +53,37 @@ impl<R: RoomLike> Registry<R> {
         serial: u64,
         event: &RoomEvent,
         steps: &mut Steps<L>,
-    ) -> Result<RoomOuts, Memory>
+    ) -> Result<Turn, Memory>
         requires kept { IsKept R.room self.old }
         requires there { IsSome (find_by serial_of serial self.old.rooms) }
         requires happen { IfSome (find_by serial_of serial self.old.rooms) (λ s. R.is_spent s.room ≡ false → IsTrue (may_happen (R.room s.room) event.now)) }
-        ensures outs { IfOk result (λ outs. IfSome (find_by serial_of serial self.old.rooms) (λ s. outs ≡ (R.happens (R.room s.room) event.now).1)) }
+        ensures ordered { AreOrdered self.old.rooms }
+        ensures outs { IfOk result (λ turn. IfSome (find_by serial_of serial self.old.rooms) (λ s. turn.outs ≡ (R.happens (R.room s.room) event.now).1)) }
         ensures after { OnOk result (IfSome (find_by serial_of serial self.old.rooms) (λ s. IsStepped R.room R.is_spent s self.old.rooms self.new.rooms (R.happens (R.room s.room) event.now).0)) }
+        ensures now { IfOk result (λ turn. IfSome (find_by serial_of serial self.new.rooms) (λ t. IsLook R.room t turn.now)) }
         ensures kept { OnOk result (IsKept R.room self.new) }
         ensures count { OnOk result (length self.new.shelves.items ≡ length self.old.shelves.items) }
         ensures cost { IfSome (find_by serial_of serial self.old.rooms) (λ s. steps.new ≤ steps.old + R.costs s.room event.now) }
     {
-        let before = self.next_of(serial);
-        let outs = self.rooms.step(serial, event, steps)?;
-        self.note(serial, before)?;
-        Ok(outs)
+        let turn = self.rooms.step(serial, event, steps)?;
+        self.note(serial, &turn.was, &turn.now)?;
+        Ok(turn)
     }
 
-    // Notes how the room of a number stands now, where `before` was its next lapse.
-    fn note(&mut self, serial: u64, before: Option<u64>) -> Result<(), Memory>
-        requires lapse { IfSome before (λ at. has_lapse self.old.lapses at serial ≡ true) }
-        requires def { IfSome (find_by serial_of serial self.old.rooms) (λ t. t.def < length self.old.shelves.items) }
+    // Notes how the room of a number looks now.
+    fn note(&mut self, serial: u64, was: &Look, now: &Look) -> Result<(), Memory>
+        requires lapse { IfSome was.now.lapse (λ at. has_lapse self.old.lapses at serial ≡ true) }
+        requires def { now.now.def < length self.old.shelves.items }
         ensures rooms { self.new.rooms ≡ self.old.rooms }
-        ensures lapses { OnOk result (IfSome (find_by serial_of serial self.old.rooms) (λ t. IsRenoted (R.room t.room).seats serial before self.old.lapses self.new.lapses)) }
-        ensures shelves { OnOk result (IfSome (find_by serial_of serial self.old.rooms) (λ t. Shows R.room t self.old.shelves.items self.new.shelves.items)) }
+        ensures lapses { OnOk result (Exchanged serial was.now.lapse now.now.lapse self.old.lapses self.new.lapses) }
+        ensures same { OnOk result (looks_same was.now now.now ≡ true → self.new.shelves.items ≡ self.old.shelves.items) }
+        ensures shelves { OnOk result (looks_same was.now now.now ≡ false → Renews serial now.now self.old.shelves.items self.new.shelves.items) }
     {
-        match self.rooms.get(serial) {
-            Some(stood) => {
-                note_lapse(serial, &stood.room, before, &mut self.lapses)?;
-                show(stood, &mut self.shelves);
-                Ok(())
-            }
-            None => Ok(()),
+        self.lapses.change(serial, was.lapse, now.lapse)?;
+        if !was.is_like(now) {
+            show(serial, now, &mut self.shelves);
         }
+        Ok(())
     }
 
     /// Adds a room of a definition, with the criteria of its creation, and gives its number.
@@ -154,17 +154,41 @@ impl<R: RoomLike> Registry<R> {
         ensures kept { OnOk result (IsKept R.room self.new) }
         ensures count { length self.new.shelves.items ≡ length self.old.shelves.items }
     {
+        let Some(now) = self.look(serial) else {
+            return Ok(());
+        };
+        self.dispose_as(serial, &now, told)
+    }
+
+    // How the room of a number looks.
+    fn look(&self, serial: u64) -> Option<Look>
+        ensures ordered { AreOrdered self.now.rooms }
+        ensures some { IfSome result (λ look. IfSome (find_by serial_of serial self.now.rooms) (λ t. IsLook R.room t look)) }
+        ensures none { IfNone result (find_by serial_of serial self.now.rooms ≡ None) }
+    {
         match self.rooms.get(serial) {
-            Some(stood) => {
-                if stood.room.in_use() > 0 {
-                    return Ok(());
-                }
-                told.push(HubOut::Disposed(stood.id))?;
-                self.remove(serial);
-                Ok(())
-            }
-            None => Ok(()),
+            Some(stood) => Some(Look::of(stood)),
+            None => None,
         }
+    }
+
+    /// The same where it is known how the room looks.
+    pub fn dispose_as(&mut self, serial: u64, now: &Look, told: &mut HubOuts) -> Result<(), Memory>
+        requires kept { IsKept R.room self.old }
+        requires look { IfSome (find_by serial_of serial self.old.rooms) (λ t. IsLook R.room t now.now) }
+        ensures ordered { AreOrdered self.old.rooms }
+        ensures rooms { OnOk result (IfSome (find_by serial_of serial self.old.rooms) (λ t. self.new.rooms ≡ (if is_needed (room_in R.room t) then self.old.rooms else remove serial_of serial self.old.rooms))) }
+        ensures told { OnOk result (IfSome (find_by serial_of serial self.old.rooms) (λ t. told.new ≡ told.old ++ disposals (room_in R.room t ∷ []))) }
+        ensures kept { OnOk result (IsKept R.room self.new) }
+        ensures count { length self.new.shelves.items ≡ length self.old.shelves.items }
+    {
+        self.rooms.know();
+        if now.in_use > 0 {
+            return Ok(());
+        }
+        told.push(HubOut::Disposed(now.id))?;
+        self.remove(serial);
+        Ok(())
     }
 
     // The next lapse of the room of a number.
@@ -177,19 +201,6 @@ impl<R: RoomLike> Registry<R> {
             None => None,
         }
     }
-}
-
-// Notes when something of the room of a number lapses now, where `before` was its next lapse.
-fn note_lapse<R: RoomLike>(
-    serial: u64,
-    room: &R,
-    before: Option<u64>,
-    lapses: &mut Lapses,
-) -> Result<(), Memory>
-    requires { IfSome before (λ at. has_lapse lapses.old at serial ≡ true) }
-    ensures { OnOk result (IsRenoted (R.room room.now).seats serial before lapses.old lapses.new) }
-{
-    lapses.change(serial, before, room.next_lapse())
 }
 
 // So many shelves without rooms.
@@ -213,13 +224,10 @@ fn shelve(def: u32, serial: u64, listing: Listing, shelves: &mut Vec<Shelf>) -> 
     shelves[def as usize].push(serial, listing)
 }
 
-// Notes how a room is shown to requests now.
-fn show<R: RoomLike>(stood: &Stood<R>, shelves: &mut Vec<Shelf>)
-    requires { stood.now.def < length shelves.old.items }
-    ensures { Shows R.room stood.now shelves.old.items shelves.new.items }
+// Notes how the room of a number is shown to requests now.
+fn show(serial: u64, now: &Look, shelves: &mut Vec<Shelf>)
+    requires { now.now.def < length shelves.old.items }
+    ensures { Renews serial now.now shelves.old.items shelves.new.items }
 {
-    let locked = stood.room.locked();
-    let in_use = stood.room.in_use();
-    let max = stood.room.max();
-    shelves[stood.def as usize].renew(stood.serial, locked, in_use, max);
+    shelves[now.def as usize].renew(serial, now.locked, now.in_use, now.max);
 }

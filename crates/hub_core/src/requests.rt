@@ -1,12 +1,14 @@
 //! What requests lead to.
 ghost use Rattle.std.specs.Prelude.{◌≡◌, ◌<◌, ◌^◌, true, false, Some, None, Ok, if◌then◌else◌, option_copied, length, map, option_and_then, IfOk};
 ghost use Rattle.std.specs.List.{find};
+ghost use Rattle.std.specs.Option.{option_map_or};
 ghost use Rattle.room_model.specs.Ledger.{kept_by as keeper_of};
 ghost use Rattle.hub_model.specs.Decisions.{decide};
 ghost use Rattle.hub_model.specs.HubStep.{criteria_of, kept_session, led};
 ghost use Rattle.hub_model.specs.HubValues.{is_used, listings};
 ghost use Rattle.hub_model.specs.Requests.{read_request};
 ghost use Rattle.matchmaker.specs.Bodies.{said_by};
+ghost use Rattle.hub_core.specs.Homes.{has_in, home_in};
 ghost use Rattle.hub_core.specs.Hubs.{Stands, hub_of};
 ghost use Rattle.hub_core.specs.Led.{LedBy, Leads, is_by_id, is_made, led_in, listed_alone, the_listing, used_of};
 ghost use Rattle.hub_core.specs.declared.led.Led.TheVariants as leads;
@@ -115,6 +117,7 @@ impl<R: RoomLike> Parts<R> {
 
     /// The drawn id for which it is refused, since it is a room's or a session's: a new room uses both, the room's first.
     pub fn used(&self, led: &Led, room: Id, session: Id) -> Option<Id>
+        requires { Stands R.room R.Holds self.now }
         ensures { result ≡ used_of (is_used (hub_of R.room self.now)) led.now room session }
     {
         match led {
@@ -129,12 +132,30 @@ impl<R: RoomLike> Parts<R> {
 
     // An id, where it is a room's or a session's.
     fn used_id(&self, id: Id) -> Option<Id>
+        requires { Stands R.room R.Holds self.now }
         ensures { result ≡ (if is_used (hub_of R.room self.now) id then Some id else None) }
     {
-        if self.registry.rooms.knows(id) {
-            Some(id)
-        } else {
-            None
+        if self.is_used(id) { Some(id) } else { None }
+    }
+
+    // An id is a room's or a session's.
+    fn is_used(&self, id: Id) -> bool
+        requires { Stands R.room R.Holds self.now }
+        ensures { result ≡ is_used (hub_of R.room self.now) id }
+    {
+        match self.registry.rooms.serial_of(id) {
+            Some(_) => true,
+            None => self.has_session(id),
+        }
+    }
+
+    // The room in which it was reserved last has the session.
+    fn has_session(&self, id: Id) -> bool
+        ensures { result ≡ option_map_or (λ n. has_in R.room self.now.registry.rooms n id) (home_in id self.now.homes) false }
+    {
+        match self.homes.get(id) {
+            Some(serial) => self.registry.rooms.has_session(serial, id),
+            None => false,
         }
     }
 }

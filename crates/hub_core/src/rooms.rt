@@ -1,15 +1,17 @@
 //! The rooms of a hub.
 ghost use Rattle.std.specs.Prelude.{◌≡◌, ◌+◌, ◌≤◌, ◌++◌, ◌∷◌, ◌<◌, ◌^◌, [], None, length, option_copied, option_map, slice_get, IfOk, OnOk, IfSome, IsSome, IsTrue, false};
-ghost use Rattle.std.specs.List.{find, list_any};
+ghost use Rattle.std.specs.List.{find};
 ghost use Rattle.lists.specs.Rising.{IsAbove, find as find_by, remove};
 ghost use Rattle.room_laws.specs.Places.{may_happen};
-ghost use Rattle.hub_model.specs.HubValues.{knows};
-ghost use Rattle.hub_core.specs.Stood.{AreOrdered, IsStepped, has_id, room_in, rooms_in, serial_of};
+ghost use Rattle.hub_core.specs.Homes.{has_in};
+ghost use Rattle.hub_core.specs.Looks.{IsLook};
+ghost use Rattle.hub_core.specs.Stood.{AreOrdered, IsStepped, has_id, serial_of};
 
+use crate::look::{Look, Turn};
 use crate::stood::Stood;
 use lists::Memory;
 use room_like::RoomLike;
-use room_model::{RoomEvent, RoomOuts, Texts};
+use room_model::{RoomEvent, Texts};
 use schema_model::Id;
 use std::alloc::Global;
 use std::collections::BTreeMap;
@@ -148,47 +150,44 @@ impl<R> Rooms<R> {
 }
 
 impl<R: RoomLike> Rooms<R> {
-    /// Whether an id is a room's or a session's of one. It looks at each room.
-    pub fn knows(&self, id: Id) -> bool
-        ensures { result ≡ list_any (knows id) (rooms_in R.room self.now) }
+    /// Whether the room of a number has a session.
+    pub fn has_session(&self, serial: u64, session: Id) -> bool
+        ensures { result ≡ has_in R.room self.now serial session }
     {
-        'rooms: for (_, stood) in self.by_serial.iter() {
-            if knows(stood, id) {
-                return true;
-            }
+        match self.get(serial) {
+            Some(stood) => stood.room.has_session(session),
+            None => false,
         }
-        false
     }
 
-    /// The step of the room of a number.
+    /// The step of the room of a number, with how the room looked before and looks then.
     pub fn step<L: Ledger>(
         &mut self,
         serial: u64,
         event: &RoomEvent,
         steps: &mut Steps<L>,
-    ) -> Result<RoomOuts, Memory>
+    ) -> Result<Turn, Memory>
         requires there { IsSome (find_by serial_of serial self.old) }
         requires happen { IfSome (find_by serial_of serial self.old) (λ s. R.is_spent s.room ≡ false → IsTrue (may_happen (R.room s.room) event.now)) }
-        ensures outs { IfOk result (λ outs. IfSome (find_by serial_of serial self.old) (λ s. outs ≡ (R.happens (R.room s.room) event.now).1)) }
+        ensures ordered { AreOrdered self.old }
+        ensures outs { IfOk result (λ turn. IfSome (find_by serial_of serial self.old) (λ s. turn.outs ≡ (R.happens (R.room s.room) event.now).1)) }
         ensures after { OnOk result (IfSome (find_by serial_of serial self.old) (λ s. IsStepped R.room R.is_spent s self.old self.new (R.happens (R.room s.room) event.now).0)) }
+        ensures was { IfOk result (λ turn. IfSome (find_by serial_of serial self.old) (λ s. IsLook R.room s turn.was)) }
+        ensures now { IfOk result (λ turn. IfSome (find_by serial_of serial self.new) (λ t. IsLook R.room t turn.now)) }
         ensures cost { IfSome (find_by serial_of serial self.old) (λ s. steps.new ≤ steps.old + R.costs s.room event.now) }
     {
         let Some(stood) = self.by_serial.get_mut(&serial) else {
             return Err(Memory);
         };
-        stood.room.step(event, steps)
+        let was = Look::of(stood);
+        let outs = stood.room.step(event, steps)?;
+        let now = Look::of(stood);
+        Ok(Turn { outs, was, now })
     }
 }
 
-// An id is a room's or a session's of it.
-fn knows<R: RoomLike>(stood: &Stood<R>, id: Id) -> bool
-    ensures { result ≡ knows id (room_in R.room stood.now) }
-{
-    stood.id.0 == id.0 || stood.room.has_session(id)
-}
-
-// An id as a key.
-fn bytes_of(id: Id) -> [u8; 9]
+/// An id as a key.
+pub fn bytes_of(id: Id) -> [u8; 9]
     ensures { result ≡ id }
 {
     let Id(bytes) = id;

@@ -2,6 +2,7 @@
 ghost use Rattle.std.specs.Prelude.{◌≡◌, ◌+◌, ◌++◌, ◌∷◌, ◌<◌, ◌^◌, ◌==◌, [], false, None, length, slice_get, IfOk, IfSome, IsSome, IsTrue, OnOk};
 ghost use Rattle.std.specs.List.{find};
 ghost use Rattle.lists.specs.Rising.{find as find_by};
+ghost use Rattle.room_laws.specs.Names.{has_session};
 ghost use Rattle.room_laws.specs.Places.{has_place_for};
 ghost use Rattle.hub_model.specs.declared.event.HubOut.TheVariants as out;
 ghost use Rattle.hub_model.specs.HubStep.{seat_text};
@@ -47,7 +48,7 @@ impl<R: RoomLike> Parts<R> {
         Ok(serial)
     }
 
-    /// Reserves a seat for a session in the room of a number, and answers its request.
+    /// Reserves a seat for a session, which no room has, in the room of a number, and answers its request.
     pub fn reserve<L: Ledger>(
         &mut self,
         serial: u64,
@@ -61,12 +62,15 @@ impl<R: RoomLike> Parts<R> {
         requires there { IsSome (find_by serial_of serial self.old.registry.rooms) }
         requires place { IfSome (find_by serial_of serial self.old.registry.rooms) (λ s. IsTrue (has_place_for (R.room s.room) session)) }
         requires session { IsTrue (is_id session) }
+        requires free { Each (λ s. has_session (R.room s.room) session ≡ false) self.old.registry.rooms }
         ensures { OnOk result (IfSome (find_by serial_of serial self.old.registry.rooms) (λ s. Seated R.room R.Holds R.happens conn session s self.old self.new told.old told.new)) }
     {
+        self.homes
+            .note(self.alloc, session, serial, &self.registry.rooms)?;
         let event = RoomEvent::Reserve(session, self.lapse_in(serial));
-        self.happen(serial, &event, told, steps)?;
+        let now = self.happen(serial, &event, told, steps)?;
         self.reply(serial, conn, session, told)?;
-        self.registry.dispose(serial, told)
+        self.registry.dispose_as(serial, &now, told)
     }
 
     // When a reservation lapses that is made now in the room of a number.

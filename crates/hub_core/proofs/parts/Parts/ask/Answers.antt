@@ -28,6 +28,10 @@ pub reserve-requires-clause-place : goal.reserve-requires-clause-place
 reserve-requires-clause-place g c =
     ask.join_place g.R.RoomLike.room g.R.RoomLike.Holds g.R.RoomLike.happens (lawful g) c.args.self.now c.requires.stands c.know.ensures c.args.conn c.args.target.now c.args.body.now c.args.room c.args.session c.in_ok-led.led c.in_ok-led.ensures c.in-Join.serial c.in-Join.is c.in_default.ensures
 
+pub reserve-requires-clause-free : goal.reserve-requires-clause-free
+reserve-requires-clause-free g c =
+    ask.join_free g.R.RoomLike.room g.R.RoomLike.Holds g.R.RoomLike.happens (lawful g) c.args.self.now c.requires.stands c.know.ensures c.args.conn c.args.target.now c.args.body.now c.args.room c.args.session c.in_ok-led.led c.in_ok-led.ensures c.in-Join.serial c.in-Join.is c.in_default.ensures
+
 pub create-requires-clause-free : goal.create-requires-clause-free
 create-requires-clause-free g c =
     ask.make_free g.R.RoomLike.room g.R.RoomLike.Holds g.R.RoomLike.happens (lawful g) c.args.self.now c.requires.stands c.know.ensures c.args.conn c.args.target.now c.args.body.now c.args.room c.args.session c.in_ok-led.led c.in_ok-led.ensures c.in-Make.def c.in-Make.criteria c.in-Make.is c.in_default.ensures
@@ -54,6 +58,11 @@ reserve-requires-in-Make-clause-there g c =
 pub reserve-requires-in-Make-clause-place : goal.reserve-requires-in-Make-clause-place
 reserve-requires-in-Make-clause-place g c =
     ask.made_place g.R.RoomLike.room g.R.RoomLike.Holds g.R.RoomLike.happens (lawful g) c.args.self.now c.requires.stands c.know.ensures c.args.conn c.args.target.now c.args.body.now c.args.room c.args.session c.in_ok-led.led c.in_ok-led.ensures c.in-Make.def c.in-Make.criteria c.in-Make.is c.in_default.ensures
+    c.in_ok-serial-in-Make.serial c.create.new.self c.args.told.now c.create.new.told c.in_ok-serial-in-Make.ensures
+
+pub reserve-requires-in-Make-clause-free : goal.reserve-requires-in-Make-clause-free
+reserve-requires-in-Make-clause-free g c =
+    ask.made_unused g.R.RoomLike.room g.R.RoomLike.Holds g.R.RoomLike.happens (lawful g) c.args.self.now c.requires.stands c.know.ensures c.args.conn c.args.target.now c.args.body.now c.args.room c.args.session c.in_ok-led.led c.in_ok-led.ensures c.in-Make.def c.in-Make.criteria c.in-Make.is c.in_default.ensures
     c.in_ok-serial-in-Make.serial c.create.new.self c.args.told.now c.create.new.told c.in_ok-serial-in-Make.ensures
 
 pub reply-requires-clause-there : goal.reply-requires-clause-there

@@ -20,7 +20,7 @@ pub rooms-preserved : goal.rooms-preserved
 rooms-preserved g c =
     leaving_next g.R.RoomLike.room g.R.RoomLike.Holds g.R.RoomLike.happens (lawful g) c.in-Some.serial.now c.next.new.self c.args.self.now c.rooms.self c.dispose.new.self c.args.told.now c.rooms.told c.dispose.new.told
     (subst (λ ks. Leaving g.R.RoomLike.room g.R.RoomLike.Holds ks c.args.self.now c.rooms.self c.args.told.now c.rooms.told) c.in-Some.ensures.steps c.rooms.invariant)
-    c.in_ok-dispose.ensures.ordered c.in_ok-dispose.ensures.rooms c.in_ok-dispose.ensures.told c.in_ok-dispose.ensures.kept c.in_ok-dispose.ensures.count _ refl refl refl refl refl refl
+    c.in_ok-dispose.ensures.ordered c.in_ok-dispose.ensures.rooms c.in_ok-dispose.ensures.told c.in_ok-dispose.ensures.kept c.in_ok-dispose.ensures.count _ refl refl refl refl refl refl refl
 
 pub returns : goal.returns
 returns g c = leaving_last g.R.RoomLike.room g.R.RoomLike.Holds c.rooms.serial-iterator c.args.self.now c.rooms.self c.args.told.now c.rooms.told c.in-None.ensures.steps.0 c.know.ensures c.rooms.invariant

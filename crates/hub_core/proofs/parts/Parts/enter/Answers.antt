@@ -34,16 +34,16 @@ connect-requires-clause-session g c entry =
     let old = c.args.self.now in
     let ordered = c.in-Some.ensures.ordered in
     let f = found_serial old.registry.rooms c.args.opening.now.room c.in-Some.serial ordered c.in-Some.ensures.value in
-    enter.free_session g.R.RoomLike.room g.R.RoomLike.Holds g.R.RoomLike.happens (lawful g) c.args.opening.now c.args.fresh c.in-Some.serial old c.in_ok-outs.outs c.requires.stands f c.in_ok-outs.ensures.outs (sym (ap (list_any (is_entry c.args.opening.now.session)) c.as_slice.ensures) ∙ entry)
+    enter.free_session g.R.RoomLike.room g.R.RoomLike.Holds g.R.RoomLike.happens (lawful g) c.args.opening.now c.args.fresh c.in-Some.serial old c.in_ok-outs.field-0.outs c.requires.stands f c.in_ok-outs.ensures.outs (sym (ap (list_any (is_entry c.args.opening.now.session)) c.as_slice.ensures) ∙ entry)
 
 -- the connections with the one that enters, and those that are left of them
 abbrev with_newcomer : (g : Over) (c : goal.Joined-event-17 g) → List HubConn
-with_newcomer g c = if list_any (is_entry c.args.opening.now.session) c.in_ok-outs.outs then put conn_number (record { conn = c.args.conn; room = c.args.opening.now.room; session = c.args.opening.now.session }) c.args.self.now.conns else c.args.self.now.conns
+with_newcomer g c = if list_any (is_entry c.args.opening.now.session) c.in_ok-outs.field-0.outs then put conn_number (record { conn = c.args.conn; room = c.args.opening.now.room; session = c.args.opening.now.session }) c.args.self.now.conns else c.args.self.now.conns
 
 connected : (g : Over) (c : goal.Joined-event-17 g) → c.connect.new.conns ≡ with_newcomer g c
 connected g c = c.in_ok-connect.ensures ∙ ap (λ o. if list_any (is_entry c.args.opening.now.session) o then put conn_number (record { conn = c.args.conn; room = c.args.opening.now.room; session = c.args.opening.now.session }) c.args.self.now.conns else c.args.self.now.conns) c.as_slice.ensures
 
-ended_all : (g : Over) (c : goal.Joined-event-17 g) → c.end_all.new.conns ≡ without_all c.args.opening.now.room (flat_map ended_by c.in_ok-outs.outs) (with_newcomer g c)
+ended_all : (g : Over) (c : goal.Joined-event-17 g) → c.end_all.new.conns ≡ without_all c.args.opening.now.room (flat_map ended_by c.in_ok-outs.field-0.outs) (with_newcomer g c)
 ended_all g c = c.end_all.ensures ∙ ap₂ (λ l cs. without_all c.args.opening.now.room l cs) (c.as_slice-3.ensures.value ∙ c.in_ok-sessions.ensures ∙ ap (flat_map ended_by) c.as_slice-2.ensures) (connected g c)
 
 -- the same by what the room made of the opening
@@ -54,27 +54,27 @@ ended_by_it g c =
     let f = found_serial old.registry.rooms c.args.opening.now.room c.in-Some.serial ordered c.in-Some.ensures.value in
     ended_all g c
     ∙ ap₂ (λ k o. without_all k (flat_map ended_by o) (with_newcomer g c)) (sym (same_bytes f.it.id c.args.opening.now.room (found_named f)))
-    (of_there (find_by serial_of c.in-Some.serial old.registry.rooms) f.it (λ s. c.in_ok-outs.outs ≡ (g.R.RoomLike.happens (g.R.RoomLike.room s.room) (event.Enter c.args.opening.now.session c.args.opening.now.token c.args.fresh)).1) f.at c.in_ok-outs.ensures.outs)
+    (of_there (find_by serial_of c.in-Some.serial old.registry.rooms) f.it (λ s. c.in_ok-outs.field-0.outs ≡ (g.R.RoomLike.happens (g.R.RoomLike.room s.room) (event.Enter c.args.opening.now.session c.args.opening.now.token c.args.fresh)).1) f.at c.in_ok-outs.ensures.outs)
 
 pub returns-clause-hub : goal.returns-clause-hub
 returns-clause-hub g c =
     let old = c.args.self.now in
     let ordered = c.in-Some.ensures.ordered in
     let f = found_serial old.registry.rooms c.args.opening.now.room c.in-Some.serial ordered c.in-Some.ensures.value in
-    one_ok _ _ c.dispose.result (λ left.
-    play.hub_left g.R.RoomLike.room g.R.RoomLike.is_spent g.R.RoomLike.Holds g.R.RoomLike.happens (lawful g) c.args.opening.now.room (event.Enter c.args.opening.now.session c.args.opening.now.token c.args.fresh) c.in-Some.serial old c.step.new.self c.dispose.new.self c.in_ok-outs.outs c.requires.stands ordered f (may_enter g.R.RoomLike.room c.args.opening.now.session c.args.opening.now.token c.args.fresh (find (has_id c.args.opening.now.room) old.registry.rooms)) c.in_ok-outs.ensures.outs c.in_ok-outs.ensures.after left (with_newcomer g c) c.end_all.new.conns (ended_all g c)
-    ∙ ap (λ cs. with_dealt (hub_of g.R.RoomLike.room old) cs (dealt_to g.R.RoomLike.happens (hub_of g.R.RoomLike.room old) c.args.fresh c.args.opening.now)) (enter.conns_entered g.R.RoomLike.room g.R.RoomLike.is_spent g.R.RoomLike.Holds g.R.RoomLike.happens (lawful g) c.args.opening.now c.args.fresh c.in-Some.serial old c.step.new.self c.dispose.new.self c.in_ok-outs.outs c.requires.stands ordered f (may_enter g.R.RoomLike.room c.args.opening.now.session c.args.opening.now.token c.args.fresh (find (has_id c.args.opening.now.room) old.registry.rooms)) c.in_ok-outs.ensures.outs c.in_ok-outs.ensures.after left c.args.conn))
-    c.dispose.ensures.rooms
+    one_ok _ _ c.dispose_as.result (λ left.
+    play.hub_left g.R.RoomLike.room g.R.RoomLike.is_spent g.R.RoomLike.Holds g.R.RoomLike.happens (lawful g) c.args.opening.now.room (event.Enter c.args.opening.now.session c.args.opening.now.token c.args.fresh) c.in-Some.serial old c.step.new.self c.dispose_as.new.self c.in_ok-outs.field-0.outs c.requires.stands ordered f (may_enter g.R.RoomLike.room c.args.opening.now.session c.args.opening.now.token c.args.fresh (find (has_id c.args.opening.now.room) old.registry.rooms)) c.in_ok-outs.ensures.outs c.in_ok-outs.ensures.after left (with_newcomer g c) c.end_all.new.conns (ended_all g c)
+    ∙ ap (λ cs. with_dealt (hub_of g.R.RoomLike.room old) cs (dealt_to g.R.RoomLike.happens (hub_of g.R.RoomLike.room old) c.args.fresh c.args.opening.now)) (enter.conns_entered g.R.RoomLike.room g.R.RoomLike.is_spent g.R.RoomLike.Holds g.R.RoomLike.happens (lawful g) c.args.opening.now c.args.fresh c.in-Some.serial old c.step.new.self c.dispose_as.new.self c.in_ok-outs.field-0.outs c.requires.stands ordered f (may_enter g.R.RoomLike.room c.args.opening.now.session c.args.opening.now.token c.args.fresh (find (has_id c.args.opening.now.room) old.registry.rooms)) c.in_ok-outs.ensures.outs c.in_ok-outs.ensures.after left c.args.conn))
+    c.dispose_as.ensures.rooms
 
 pub returns-clause-told : goal.returns-clause-told
 returns-clause-told g c =
     let old = c.args.self.now in
     let ordered = c.in-Some.ensures.ordered in
     let f = found_serial old.registry.rooms c.args.opening.now.room c.in-Some.serial ordered c.in-Some.ensures.value in
-    both_ok _ _ _ c.dispose.result (λ left told.
-    play.told_all g.R.RoomLike.room g.R.RoomLike.is_spent g.R.RoomLike.Holds g.R.RoomLike.happens (lawful g) c.args.opening.now.room (event.Enter c.args.opening.now.session c.args.opening.now.token c.args.fresh) c.in-Some.serial old c.step.new.self c.dispose.new.self c.in_ok-outs.outs c.requires.stands ordered f (may_enter g.R.RoomLike.room c.args.opening.now.session c.args.opening.now.token c.args.fresh (find (has_id c.args.opening.now.room) old.registry.rooms)) c.in_ok-outs.ensures.outs c.in_ok-outs.ensures.after left (opened_out c.args.conn c.args.fresh (entered_conns old.conns c.args.conn (dealt_to g.R.RoomLike.happens (hub_of g.R.RoomLike.room old) c.args.fresh c.args.opening.now) (Some c.args.opening.now))) c.args.told.now c.tell_opened.new.told c.dispose.new.told
-    (c.in_ok-tell_opened.ensures ∙ ap (λ cs. c.args.told.now ++ flat_map (opened_out c.args.conn c.args.fresh cs c.args.opening.now.room) c.in_ok-outs.outs) (connected g c ∙ enter.conns_entered g.R.RoomLike.room g.R.RoomLike.is_spent g.R.RoomLike.Holds g.R.RoomLike.happens (lawful g) c.args.opening.now c.args.fresh c.in-Some.serial old c.step.new.self c.dispose.new.self c.in_ok-outs.outs c.requires.stands ordered f (may_enter g.R.RoomLike.room c.args.opening.now.session c.args.opening.now.token c.args.fresh (find (has_id c.args.opening.now.room) old.registry.rooms)) c.in_ok-outs.ensures.outs c.in_ok-outs.ensures.after left c.args.conn)) told)
-    c.dispose.ensures.rooms c.dispose.ensures.told
+    both_ok _ _ _ c.dispose_as.result (λ left told.
+    play.told_all g.R.RoomLike.room g.R.RoomLike.is_spent g.R.RoomLike.Holds g.R.RoomLike.happens (lawful g) c.args.opening.now.room (event.Enter c.args.opening.now.session c.args.opening.now.token c.args.fresh) c.in-Some.serial old c.step.new.self c.dispose_as.new.self c.in_ok-outs.field-0.outs c.requires.stands ordered f (may_enter g.R.RoomLike.room c.args.opening.now.session c.args.opening.now.token c.args.fresh (find (has_id c.args.opening.now.room) old.registry.rooms)) c.in_ok-outs.ensures.outs c.in_ok-outs.ensures.after left (opened_out c.args.conn c.args.fresh (entered_conns old.conns c.args.conn (dealt_to g.R.RoomLike.happens (hub_of g.R.RoomLike.room old) c.args.fresh c.args.opening.now) (Some c.args.opening.now))) c.args.told.now c.tell_opened.new.told c.dispose_as.new.told
+    (c.in_ok-tell_opened.ensures ∙ ap (λ cs. c.args.told.now ++ flat_map (opened_out c.args.conn c.args.fresh cs c.args.opening.now.room) c.in_ok-outs.field-0.outs) (connected g c ∙ enter.conns_entered g.R.RoomLike.room g.R.RoomLike.is_spent g.R.RoomLike.Holds g.R.RoomLike.happens (lawful g) c.args.opening.now c.args.fresh c.in-Some.serial old c.step.new.self c.dispose_as.new.self c.in_ok-outs.field-0.outs c.requires.stands ordered f (may_enter g.R.RoomLike.room c.args.opening.now.session c.args.opening.now.token c.args.fresh (find (has_id c.args.opening.now.room) old.registry.rooms)) c.in_ok-outs.ensures.outs c.in_ok-outs.ensures.after left c.args.conn)) told)
+    c.dispose_as.ensures.rooms c.dispose_as.ensures.told
 
 pub returns-clause-stands : goal.returns-clause-stands
 returns-clause-stands g c =
@@ -82,7 +82,7 @@ returns-clause-stands g c =
     let ordered = c.in-Some.ensures.ordered in
     let f = found_serial old.registry.rooms c.args.opening.now.room c.in-Some.serial ordered c.in-Some.ensures.value in
     let may = may_enter g.R.RoomLike.room c.args.opening.now.session c.args.opening.now.token c.args.fresh (find (has_id c.args.opening.now.room) old.registry.rooms) in
-    both_ok _ _ _ c.dispose.result (λ left kept.
-    enter.entered_stands g.R.RoomLike.room g.R.RoomLike.is_spent g.R.RoomLike.Holds g.R.RoomLike.happens (lawful g) c.args.opening.now c.args.fresh c.in-Some.serial old c.step.new.self c.dispose.new.self c.in_ok-outs.outs c.requires.stands ordered f may c.in_ok-outs.ensures.outs c.in_ok-outs.ensures.after left c.args.conn
-    (record { alloc = old.alloc; moment = old.moment; schema = old.schema; process = old.process; defs = old.defs; registry = c.step.new.self; conns = c.end_all.new.conns }) _ refl (ended_by_it g c) refl refl refl c.in_ok-outs.ensures.kept c.in_ok-outs.ensures.count c.dispose.ensures.ordered kept c.dispose.ensures.count refl refl refl refl refl)
-    c.dispose.ensures.rooms c.dispose.ensures.kept
+    both_ok _ _ _ c.dispose_as.result (λ left kept.
+    enter.entered_stands g.R.RoomLike.room g.R.RoomLike.is_spent g.R.RoomLike.Holds g.R.RoomLike.happens (lawful g) c.args.opening.now c.args.fresh c.in-Some.serial old c.step.new.self c.dispose_as.new.self c.in_ok-outs.field-0.outs c.requires.stands ordered f may c.in_ok-outs.ensures.outs c.in_ok-outs.ensures.after left c.args.conn
+    (record { alloc = old.alloc; moment = old.moment; schema = old.schema; process = old.process; defs = old.defs; registry = c.step.new.self; conns = c.end_all.new.conns; homes = c.args.self.now.homes }) _ refl (ended_by_it g c) refl refl refl refl c.in_ok-outs.ensures.kept c.in_ok-outs.ensures.count c.dispose_as.ensures.ordered kept c.dispose_as.ensures.count refl refl refl refl refl refl)
+    c.dispose_as.ensures.rooms c.dispose_as.ensures.kept

@@ -30,6 +30,12 @@ happen-requires-clause-names g c k is = none_reserved k is
     none_reserved : (k : List ℕ) → None ≡ Some k → is_id k ≡ true
     none_reserved k is = absurd cc
 
+pub happen-requires-clause-homes : goal.happen-requires-clause-homes
+happen-requires-clause-homes g c k is = absurd (none_reserved k is)
+  where
+    none_reserved : (k : List ℕ) → None ≡ Some k → ⊥
+    none_reserved k is = absurd cc
+
 pub rooms-preserved : goal.rooms-preserved
 rooms-preserved g c =
     let old = c.args.self.now in

@@ -15,6 +15,7 @@ lapse_all-requires-clause-order g c =
       few = order.few;
       forms = order.forms;
       process = order.process;
+      housed = order.housed;
     }
 
 pub lapse_all-requires-clause-there : goal.lapse_all-requires-clause-there
@@ -29,4 +30,4 @@ returns g c =
     let old = c.args.self.now in
     one_ok _ _ c.dispose_all.result (λ leaves.
     takes_moment g.R.RoomLike.room g.R.RoomLike.Holds g.R.RoomLike.happens c.args.now c.later-self.result c.in_ok-due.due.keys old c.requires c.know.ensures (sym c.later-self.ensures) c.in_ok-due.ensures.due
-    (record { alloc = old.alloc; moment = c.later-self.result; schema = old.schema; process = old.process; defs = old.defs; registry = old.registry; conns = old.conns }) c.lapse_all.new.self c.dispose_all.new.self c.args.told.now c.lapse_all.new.told c.dispose_all.new.told refl refl refl refl refl refl c.in_ok-lapse_all.ensures leaves) c.dispose_all.ensures
+    (record { alloc = old.alloc; moment = c.later-self.result; schema = old.schema; process = old.process; defs = old.defs; registry = old.registry; conns = old.conns; homes = old.homes }) c.lapse_all.new.self c.dispose_all.new.self c.args.told.now c.lapse_all.new.told c.dispose_all.new.told refl refl refl refl refl refl c.in_ok-lapse_all.ensures leaves) c.dispose_all.ensures

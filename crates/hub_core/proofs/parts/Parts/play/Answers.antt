@@ -4,6 +4,7 @@ use Rattle.room_model.specs.declared.event.RoomEvent.{RoomEvent}
 use Rattle.room_laws.specs.Names.{reserves}
 use Rattle.room_model.specs.declared.refusal.Refusal.TheVariants as refusal
 use Rattle.hub_model.specs.declared.event.HubOut.TheVariants as out
+use Rattle.hub_core.specs.declared.parts.Parts.{Parts}
 use Rattle.hub_core.specs.Lawful.{Lawful}
 use Rattle.hub_core.specs.Stood.{serial_of}
 use Rattle.hub_core.specs.Turned.{Turned}
@@ -28,7 +29,7 @@ returns-in_default-clause-told g c =
 pub happen-requires-clause-there : goal.happen-requires-clause-there
 happen-requires-clause-there g c = some_found c.args.self.now.registry.rooms c.args.room c.in-Some.serial (found_serial c.args.self.now.registry.rooms c.args.room c.in-Some.serial c.in-Some.ensures.ordered c.in-Some.ensures.value)
 
-found : (g : Over) (c : goal.After-dispose g) → Found c.args.self.now.registry.rooms c.args.room c.in-Some.serial
+found : (g : Over) (c : goal.After-dispose_as g) → Found c.args.self.now.registry.rooms c.args.room c.in-Some.serial
 found g c = found_serial c.args.self.now.registry.rooms c.args.room c.in-Some.serial c.in-Some.ensures.ordered c.in-Some.ensures.value
 
 pub happen-requires-clause-happen : goal.happen-requires-clause-happen
@@ -40,16 +41,23 @@ none_reserved e k none some = (let both : None ≡ Some k = sym none ∙ some in
 pub happen-requires-clause-names : goal.happen-requires-clause-names
 happen-requires-clause-names g c k is = absurd (none_reserved c.args.event.now k c.requires.reserves is)
 
+pub happen-requires-clause-homes : goal.happen-requires-clause-homes
+happen-requires-clause-homes g c k is = absurd (none_reserved c.args.event.now k c.requires.reserves is)
+
 -- the room behind its step
-turned : (g : Over) (c : goal.After-dispose g) → Turned g.R.RoomLike.room g.R.RoomLike.is_spent g.R.RoomLike.happens c.args.event.now (found g c).it c.args.self.now c.happen.new.self c.args.told.now c.happen.new.told
+turned : (g : Over) (c : goal.After-dispose_as g) → Turned g.R.RoomLike.room g.R.RoomLike.is_spent g.R.RoomLike.happens c.args.event.now (found g c).it c.args.self.now c.happen.new.self c.args.told.now c.happen.new.told
 turned g c =
-    of_there (find_by serial_of c.in-Some.serial c.args.self.now.registry.rooms) (found g c).it (λ s. Turned g.R.RoomLike.room g.R.RoomLike.is_spent g.R.RoomLike.happens c.args.event.now s c.args.self.now c.happen.new.self c.args.told.now c.happen.new.told) (found g c).at c.in_ok-happen.ensures.turned
+    of_there (find_by serial_of c.in-Some.serial c.args.self.now.registry.rooms) (found g c).it (λ s. Turned g.R.RoomLike.room g.R.RoomLike.is_spent g.R.RoomLike.happens c.args.event.now s c.args.self.now c.happen.new.self c.args.told.now c.happen.new.told) (found g c).at c.in_ok-now.ensures.turned
+
+-- the hub behind it
+abbrev new : (g : Over) (c : goal.After-dispose_as g) → Parts g.row.R.Denot
+new g c = record { alloc = c.happen.new.self.alloc; moment = c.happen.new.self.moment; schema = c.happen.new.self.schema; process = c.happen.new.self.process; defs = c.happen.new.self.defs; registry = c.dispose_as.new.self; conns = c.happen.new.self.conns; homes = c.happen.new.self.homes }
 
 pub returns-clause-hub : goal.returns-clause-hub
-returns-clause-hub g c = one_ok _ _ c.dispose.result (λ left. hub_played g.R.RoomLike.room g.R.RoomLike.is_spent g.R.RoomLike.Holds g.R.RoomLike.happens (lawful g) c.args.room c.args.event.now c.in-Some.serial c.args.self.now c.happen.new.self c.dispose.new.self c.requires.stands c.in-Some.ensures.ordered (found g c) c.requires.happen c.args.told.now c.happen.new.told (turned g c) left _ refl refl refl refl refl refl) c.dispose.ensures.rooms
+returns-clause-hub g c = one_ok _ _ c.dispose_as.result (λ left. hub_played g.R.RoomLike.room g.R.RoomLike.is_spent g.R.RoomLike.Holds g.R.RoomLike.happens (lawful g) c.args.room c.args.event.now c.in-Some.serial c.args.self.now c.happen.new.self c.dispose_as.new.self c.requires.stands c.in-Some.ensures.ordered (found g c) c.requires.happen c.args.told.now c.happen.new.told (turned g c) left (new g c) refl refl refl refl refl refl) c.dispose_as.ensures.rooms
 
 pub returns-clause-told : goal.returns-clause-told
-returns-clause-told g c = both_ok _ _ _ c.dispose.result (λ left told. told_played g.R.RoomLike.room g.R.RoomLike.is_spent g.R.RoomLike.Holds g.R.RoomLike.happens (lawful g) c.args.room c.args.event.now c.in-Some.serial c.args.self.now c.happen.new.self c.dispose.new.self c.requires.stands c.in-Some.ensures.ordered (found g c) c.requires.happen c.args.told.now c.happen.new.told (turned g c) left c.dispose.new.told told) c.dispose.ensures.rooms c.dispose.ensures.told
+returns-clause-told g c = both_ok _ _ _ c.dispose_as.result (λ left told. told_played g.R.RoomLike.room g.R.RoomLike.is_spent g.R.RoomLike.Holds g.R.RoomLike.happens (lawful g) c.args.room c.args.event.now c.in-Some.serial c.args.self.now c.happen.new.self c.dispose_as.new.self c.requires.stands c.in-Some.ensures.ordered (found g c) c.requires.happen c.args.told.now c.happen.new.told (turned g c) left c.dispose_as.new.told told) c.dispose_as.ensures.rooms c.dispose_as.ensures.told
 
 pub returns-clause-stands : goal.returns-clause-stands
-returns-clause-stands g c = both_ok _ _ _ c.dispose.result (λ left kept. stands_played g.R.RoomLike.room g.R.RoomLike.is_spent g.R.RoomLike.Holds g.R.RoomLike.happens (lawful g) c.args.room c.args.event.now c.in-Some.serial c.args.self.now c.happen.new.self c.dispose.new.self c.requires.stands c.in-Some.ensures.ordered (found g c) c.requires.happen c.args.told.now c.happen.new.told (turned g c) left _ c.in_ok-happen.ensures.order c.dispose.ensures.ordered kept c.dispose.ensures.count refl refl refl refl refl) c.dispose.ensures.rooms c.dispose.ensures.kept
+returns-clause-stands g c = both_ok _ _ _ c.dispose_as.result (λ left kept. stands_played g.R.RoomLike.room g.R.RoomLike.is_spent g.R.RoomLike.Holds g.R.RoomLike.happens (lawful g) c.args.room c.args.event.now c.in-Some.serial c.args.self.now c.happen.new.self c.dispose_as.new.self c.requires.stands c.in-Some.ensures.ordered (found g c) c.requires.happen c.args.told.now c.happen.new.told (turned g c) left _ c.in_ok-now.ensures.order c.dispose_as.ensures.ordered kept c.dispose_as.ensures.count refl refl refl refl refl refl) c.dispose_as.ensures.rooms c.dispose_as.ensures.kept

@@ -1,13 +1,14 @@
-use Rattle.std.proofs.Common.{◌≡◌, ◌∙◌, sym, ap, subst, refl, zero-le, Some}
+use Rattle.std.proofs.Common.{◌≡◌, ◌∙◌, ◌==◌, Some, IfSome, arith, cond, sym, ap, subst, refl, true}
 use Rattle.std.specs.Option.{option_copied_mut}
+use Rattle.std.proofs.lemmas.Bool.Decides.{nat_tests}
 use Rattle.lists.specs.Rising.{find as find_by}
-use Rattle.lists.proofs.RisingLaws.{IsAbove-put, RisesFrom-put, find_key}
+use Rattle.lists.proofs.RisingLaws.{find-put, find_key}
 use Rattle.trees.specs.Trees.{entry_values}
 use Rattle.trees.proofs.TreeLaws.{find_entry}
 use Rattle.hub_core.specs.declared.stood.Stood.{Stood}
+use Rattle.hub_core.specs.Looks.{IsLook}
 use Rattle.hub_core.specs.Stood.{serial_of}
-use Rattle.hub_core.proofs.RoomLaws.{AreAlone-put, AreIds-put, find_high, IsKeyed-set, both_ok, values-set}
-use Rattle.hub_core.proofs.rooms.Rooms.step.Given.{Over}
+use Rattle.hub_core.proofs.RoomLaws.{rooms_set}
 use Rattle.hub_core.proofs.rooms.Rooms.step.Goals as goal
 
 pub step-requires : goal.step-requires
@@ -15,52 +16,53 @@ step-requires g c =
     let there : find_by serial_of c.args.serial c.args.self.now ≡ Some c.in-Some.stood.now = rw (← c.self.view_is) (sym (find_entry serial_of c.args.serial c.self.inside.by_serial.entries c.self.invariant.keyed) ∙ sym c.get_mut.ensures.value ∙ ap option_copied_mut c.in-Some.is) in
     record { happen = (rw there at c.requires.happen) }
 
--- the room behind the step
-abbrev stepped : (g : Over) (c : goal.After-self-2-1 g) → Stood g.row.R.Denot
-stepped g c = record { serial = c.in-Some.stood.now.serial; id = c.in-Some.stood.now.id; def = c.in-Some.stood.now.def; criteria = c.in-Some.stood.now.criteria; room = c.step.new.self }
-
 pub invariant_of-self-2 : goal.invariant_of-self-2
 invariant_of-self-2 g c =
-    let es = c.self.inside.by_serial.entries in
-    let ss = entry_values es in
-    let there : find_by serial_of c.args.serial ss ≡ Some c.in-Some.stood.now = (sym (find_entry serial_of c.args.serial c.self.inside.by_serial.entries c.self.invariant.keyed) ∙ sym c.get_mut.ensures.value ∙ ap option_copied_mut c.in-Some.is) in
-    let same : c.in-Some.stood.now.serial ≡ c.args.serial = find_key serial_of c.args.serial ss c.in-Some.stood.now there in
-    let own : find_by serial_of c.in-Some.stood.now.serial ss ≡ Some c.in-Some.stood.now = subst (λ k. find_by serial_of k ss ≡ Some c.in-Some.stood.now) (sym same) there in
-    let set = c.get_mut.follows.holds (stepped g c) in
-    let values = ap entry_values set.0 ∙ values-set serial_of 0 c.args.serial c.in-Some.stood.now (stepped g c) es c.self.invariant.keyed c.self.invariant.rises same there in
-    record {
-      keyed = rw set.0 (IsKeyed-set serial_of c.args.serial (stepped g c) es c.self.invariant.keyed same);
-      rises = rw values (RisesFrom-put serial_of 0 (stepped g c) ss c.self.invariant.rises zero-le);
-      below = rw values (IsAbove-put serial_of c.self.inside.next (stepped g c) ss c.self.invariant.below (find_high serial_of c.self.inside.next c.args.serial c.in-Some.stood.now ss c.self.invariant.below there));
-      alone = rw values (AreAlone-put 0 c.in-Some.stood.now (stepped g c) ss c.self.invariant.rises c.self.invariant.alone own refl);
-      found = rw values (AreIds-put c.in-Some.stood.now (stepped g c) ss c.self.inside.by_id.entries c.self.invariant.rises own refl c.self.invariant.found);
-    }
+    let t : Stood g.row.R.Denot = record { serial = c.in-Some.stood.now.serial; id = c.in-Some.stood.now.id; def = c.in-Some.stood.now.def; criteria = c.in-Some.stood.now.criteria; room = c.step.new.self } in
+    (rooms_set c.args.serial c.in-Some.stood.now t c.self.inside.by_serial.entries _ c.self.inside.by_id.entries c.self.inside.next c.self.invariant (sym (find_entry serial_of c.args.serial c.self.inside.by_serial.entries c.self.invariant.keyed) ∙ sym c.get_mut.ensures.value ∙ ap option_copied_mut c.in-Some.is) refl refl (c.get_mut.follows.holds t).0).rooms
+
+pub invariant_of-self-in_err-outs : goal.invariant_of-self-in_err-outs
+invariant_of-self-in_err-outs g c =
+    let t : Stood g.row.R.Denot = record { serial = c.in-Some.stood.now.serial; id = c.in-Some.stood.now.id; def = c.in-Some.stood.now.def; criteria = c.in-Some.stood.now.criteria; room = c.step.new.self } in
+    (rooms_set c.args.serial c.in-Some.stood.now t c.self.inside.by_serial.entries _ c.self.inside.by_id.entries c.self.inside.next c.self.invariant (sym (find_entry serial_of c.args.serial c.self.inside.by_serial.entries c.self.invariant.keyed) ∙ sym c.get_mut.ensures.value ∙ ap option_copied_mut c.in-Some.is) refl refl (c.get_mut.follows.holds t).0).rooms
+
+pub returns-in_err-outs-clause-cost : goal.returns-in_err-outs-clause-cost
+returns-in_err-outs-clause-cost g c =
+    let there : find_by serial_of c.args.serial c.args.self.now ≡ Some c.in-Some.stood.now = rw (← c.self.view_is) (sym (find_entry serial_of c.args.serial c.self.inside.by_serial.entries c.self.invariant.keyed) ∙ sym c.get_mut.ensures.value ∙ ap option_copied_mut c.in-Some.is) in
+    rw there c.step.ensures.cost
 
 pub returns-clause-outs : goal.returns-clause-outs
 returns-clause-outs g c =
     let there : find_by serial_of c.args.serial c.args.self.now ≡ Some c.in-Some.stood.now = rw (← c.self.view_is) (sym (find_entry serial_of c.args.serial c.self.inside.by_serial.entries c.self.invariant.keyed) ∙ sym c.get_mut.ensures.value ∙ ap option_copied_mut c.in-Some.is) in
-    rw there c.step.ensures.outs
+    rw there c.in_ok-outs.ensures.outs
 
 pub returns-clause-after : goal.returns-clause-after
 returns-clause-after g c =
-    let es = c.self.inside.by_serial.entries in
-    let ss = entry_values es in
-    let here : find_by serial_of c.args.serial ss ≡ Some c.in-Some.stood.now = (sym (find_entry serial_of c.args.serial c.self.inside.by_serial.entries c.self.invariant.keyed) ∙ sym c.get_mut.ensures.value ∙ ap option_copied_mut c.in-Some.is) in
-    let there : find_by serial_of c.args.serial c.args.self.now ≡ Some c.in-Some.stood.now = rw (← c.self.view_is) here in
-    let same : c.in-Some.stood.now.serial ≡ c.args.serial = find_key serial_of c.args.serial ss c.in-Some.stood.now here in
-    let set = c.get_mut.follows.holds (stepped g c) in
-    let values = ap entry_values set.0 ∙ values-set serial_of 0 c.args.serial c.in-Some.stood.now (stepped g c) es c.self.invariant.keyed c.self.invariant.rises same here in
-    rw there (
-    both_ok _ _ _ c.step.result (λ after fresh. record {
-      now = stepped g c;
+    let there : find_by serial_of c.args.serial c.args.self.now ≡ Some c.in-Some.stood.now = rw (← c.self.view_is) (sym (find_entry serial_of c.args.serial c.self.inside.by_serial.entries c.self.invariant.keyed) ∙ sym c.get_mut.ensures.value ∙ ap option_copied_mut c.in-Some.is) in
+    let t : Stood g.row.R.Denot = record { serial = c.in-Some.stood.now.serial; id = c.in-Some.stood.now.id; def = c.in-Some.stood.now.def; criteria = c.in-Some.stood.now.criteria; room = c.step.new.self } in
+    let set = rooms_set c.args.serial c.in-Some.stood.now t c.self.inside.by_serial.entries _ c.self.inside.by_id.entries c.self.inside.next c.self.invariant (sym (find_entry serial_of c.args.serial c.self.inside.by_serial.entries c.self.invariant.keyed) ∙ sym c.get_mut.ensures.value ∙ ap option_copied_mut c.in-Some.is) refl refl (c.get_mut.follows.holds t).0 in
+    rw there (record {
+      now = t;
       serial = refl;
-      rooms = rw (← c.self.view_is) values;
-      is = ap (λ r. record { id = c.in-Some.stood.now.id; def = c.in-Some.stood.now.def; criteria = c.in-Some.stood.now.criteria; room = r }) after;
-      fresh = fresh;
+      rooms = rw (← c.self.view_is) set.values;
+      is = ap (λ r. record { id = c.in-Some.stood.now.id; def = c.in-Some.stood.now.def; criteria = c.in-Some.stood.now.criteria; room = r }) c.in_ok-outs.ensures.after;
+      fresh = c.in_ok-outs.ensures.fresh;
     })
-    c.step.ensures.after
-    c.step.ensures.fresh
-    )
+
+pub returns-clause-was : goal.returns-clause-was
+returns-clause-was g c =
+    let there : find_by serial_of c.args.serial c.args.self.now ≡ Some c.in-Some.stood.now = rw (← c.self.view_is) (sym (find_entry serial_of c.args.serial c.self.inside.by_serial.entries c.self.invariant.keyed) ∙ sym c.get_mut.ensures.value ∙ ap option_copied_mut c.in-Some.is) in
+    rw there c.of-was.ensures
+
+pub returns-clause-now : goal.returns-clause-now
+returns-clause-now g c =
+    let t : Stood g.row.R.Denot = record { serial = c.in-Some.stood.now.serial; id = c.in-Some.stood.now.id; def = c.in-Some.stood.now.def; criteria = c.in-Some.stood.now.criteria; room = c.step.new.self } in
+    let es = c.self.inside.by_serial.entries in
+    let here : find_by serial_of c.args.serial (entry_values es) ≡ Some c.in-Some.stood.now = sym (find_entry serial_of c.args.serial c.self.inside.by_serial.entries c.self.invariant.keyed) ∙ sym c.get_mut.ensures.value ∙ ap option_copied_mut c.in-Some.is in
+    let set = rooms_set c.args.serial c.in-Some.stood.now t es _ c.self.inside.by_id.entries c.self.inside.next c.self.invariant here refl refl (c.get_mut.follows.holds t).0 in
+    let number : t.serial ≡ c.args.serial = find_key serial_of c.args.serial (entry_values es) c.in-Some.stood.now here in
+    let own : (t.serial == c.args.serial) ≡ true = grind (arith, nat_tests, number) in
+    subst (λ o. IfSome o (λ t. IsLook g.R.RoomLike.room t c.of-now.result)) (sym (ap (find_by serial_of c.args.serial) set.values ∙ (find-put serial_of t (entry_values es) c.args.serial ∙ ap (λ b. cond b (Some t) (find_by serial_of c.args.serial (entry_values es))) own))) c.of-now.ensures
 
 pub returns-clause-cost : goal.returns-clause-cost
 returns-clause-cost g c =
