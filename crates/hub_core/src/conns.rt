@@ -10,11 +10,26 @@ use std::alloc::Global;
 use std::collections::BTreeMap;
 use std::marker::Model;
 
+/// A connection, and the number that its room had when it was opened: where its room is looked for first.
+#[derive(Drop)]
+pub struct Linked {
+    pub conn: HubConn,
+    pub near: u64,
+}
+
+impl Model for Linked {
+    ghost use Rattle.hub_model.specs.declared.conn.HubConn.{HubConn};
+
+    ghost Value = { HubConn };
+
+    ghost view = { λ l. l.conn };
+}
+
 /// Connections with their rooms and sessions, rising by their numbers; no two are of one session. One is found by its number
 /// and by its session in logarithmic time.
 #[derive(Drop)]
 pub struct Conns {
-    by_number: BTreeMap<u64, HubConn>,
+    by_number: BTreeMap<u64, Linked>,
     by_session: BTreeMap<([u8; 9], [u8; 9]), u64>,
 }
 
@@ -43,10 +58,10 @@ impl Conns {
     }
 
     /// The connection of a number.
-    pub fn get(&self, conn: ConnNum) -> Option<HubConn>
-        ensures { result ≡ find_by conn_number conn self.now }
+    pub fn get(&self, conn: ConnNum) -> Option<&Linked>
+        ensures { option_copied result ≡ find_by conn_number conn self.now }
     {
-        self.by_number.get(&conn.0).copied()
+        self.by_number.get(&conn.0)
     }
 
     /// The number of the connection of a session of a room.
@@ -59,8 +74,8 @@ impl Conns {
         }
     }
 
-    /// Puts a new connection in its place.
-    pub fn open(&mut self, conn: HubConn) -> Result<(), Memory>
+    /// Puts a new connection in its place, with the number of its room.
+    pub fn open(&mut self, conn: HubConn, near: u64) -> Result<(), Memory>
         requires number { find_by conn_number conn.conn self.old ≡ None }
         requires session { conn_for self.old conn.room conn.session ≡ None }
         ensures { OnOk result (self.new ≡ put conn_number conn self.old) }
@@ -68,7 +83,7 @@ impl Conns {
         let key = key_of(conn.room, conn.session);
         let number = number_in(&conn);
         self.by_session.insert(key, number)?;
-        match self.by_number.insert(number, conn) {
+        match self.by_number.insert(number, Linked { conn, near }) {
             Ok(_) => Ok(()),
             Err(_) => {
                 self.by_session.remove(&key);

@@ -31,8 +31,9 @@ impl<R: RoomLike> Parts<R> {
         let Some(at) = self.conns.get(conn) else {
             return told.push(HubOut::Refused(Refusal::NoConn));
         };
+        let (at, near) = (at.conn, at.near);
         let event = RoomEvent::Frame(at.session, copy_bytes(self.alloc, bytes)?);
-        self.play(at.room, &event, told, steps)
+        self.play(at.room, Some(near), &event, told, steps)
     }
 
     /// A connection is lost.
@@ -49,8 +50,9 @@ impl<R: RoomLike> Parts<R> {
         let Some(at) = self.conns.get(conn) else {
             return told.push(HubOut::Refused(Refusal::NoConn));
         };
+        let (at, near) = (at.conn, at.near);
         let event = RoomEvent::Lost(at.session, self.moment);
-        self.play(at.room, &event, told, steps)
+        self.play(at.room, Some(near), &event, told, steps)
     }
 
     /// An act of a room.
@@ -66,7 +68,7 @@ impl<R: RoomLike> Parts<R> {
         ensures { OnOk result (Takes R.room R.Holds R.happens (event.Act room act.now) self.old self.new told.old told.new) }
     {
         let event = RoomEvent::Act(copy_act(self.alloc, act)?);
-        self.play(room, &event, told, steps)
+        self.play(room, None, &event, told, steps)
     }
 
     /// A tick of a room.
@@ -79,7 +81,7 @@ impl<R: RoomLike> Parts<R> {
         requires { Stands R.room R.Holds self.old }
         ensures { OnOk result (Takes R.room R.Holds R.happens (event.Tick room) self.old self.new told.old told.new) }
     {
-        self.play(room, &RoomEvent::Tick, told, steps)
+        self.play(room, None, &RoomEvent::Tick, told, steps)
     }
 
     /// A plain connection gave what is no request.

@@ -95,7 +95,7 @@ impl<R: RoomLike> Parts<R> {
         };
         let event = RoomEvent::Enter(opening.session, opening.token, fresh);
         let Turn { outs, now, .. } = self.registry.step(serial, &event, steps)?;
-        connect(&mut self.conns, conn, opening, outs.as_slice())?;
+        connect(&mut self.conns, conn, opening, serial, outs.as_slice())?;
         let sessions = ended(self.alloc, outs.as_slice())?;
         tell_opened(
             self.alloc,
@@ -111,11 +111,12 @@ impl<R: RoomLike> Parts<R> {
     }
 }
 
-// Notes the connection of a session that a room's outputs let in.
+// Notes the connection of a session that the outputs of the room of a number let in.
 fn connect(
     conns: &mut Conns,
     conn: ConnNum,
     opening: &Opening,
+    serial: u64,
     outs: &[RoomOut],
 ) -> Result<(), Memory>
     requires number { find_by conn_number conn conns.old ≡ None }
@@ -123,11 +124,12 @@ fn connect(
     ensures { OnOk result (conns.new ≡ (if list_any (is_entry opening.now.session) outs.now then put conn_number (record { conn = conn; room = opening.now.room; session = opening.now.session }) conns.old else conns.old)) }
 {
     if enters(outs, opening.session) {
-        conns.open(HubConn {
+        let opened = HubConn {
             conn,
             room: opening.room,
             session: opening.session,
-        })?;
+        };
+        conns.open(opened, serial)?;
     }
     Ok(())
 }

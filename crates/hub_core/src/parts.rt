@@ -65,10 +65,12 @@ impl<R: RoomLike> Parts<R> {
         })
     }
 
-    /// An event of the room of an id, which opens and reserves nothing; where there is no such room it is refused.
+    /// An event of the room of an id, which may be that of a number, and opens and reserves nothing; where there is no such
+    /// room it is refused.
     pub fn play<L: Ledger>(
         &mut self,
         room: Id,
+        near: Option<u64>,
         event: &RoomEvent,
         told: &mut HubOuts,
         steps: &mut Steps<L>,
@@ -81,7 +83,7 @@ impl<R: RoomLike> Parts<R> {
         ensures told { OnOk result (told.new ≡ told.old ++ (played_in R.happens (hub_of R.room self.old) room event.now).1) }
         ensures stands { OnOk result (Stands R.room R.Holds self.new) }
     {
-        let Some(serial) = self.registry.rooms.serial_of(room) else {
+        let Some(serial) = self.registry.rooms.serial_near(near, room) else {
             return told.push(HubOut::Refused(Refusal::NoRoom));
         };
         let now = self.happen(serial, event, told, steps)?;

@@ -1,5 +1,5 @@
 //! The rooms of a hub.
-ghost use Rattle.std.specs.Prelude.{◌≡◌, ◌+◌, ◌≤◌, ◌++◌, ◌∷◌, ◌<◌, ◌^◌, [], None, length, option_copied, option_map, slice_get, IfOk, OnOk, IfSome, IsSome, IsTrue, false};
+ghost use Rattle.std.specs.Prelude.{◌≡◌, ◌+◌, ◌≤◌, ◌++◌, ◌∷◌, ◌<◌, ◌^◌, [], None, length, option_copied, option_map, slice_get, IfOk, OnOk, IfSome, IsSome, IsTrue, Some, false};
 ghost use Rattle.std.specs.List.{find};
 ghost use Rattle.lists.specs.Rising.{IsAbove, find as find_by, remove};
 ghost use Rattle.room_laws.specs.Places.{may_happen};
@@ -72,6 +72,31 @@ impl<R> Rooms<R> {
         ensures ordered { AreOrdered self.now }
     {
         self.by_id.get(&bytes_of(id)).copied()
+    }
+
+    /// The number of the room of an id, which may be that of a number: the room of that number is looked at first.
+    pub fn serial_near(&self, near: Option<u64>, id: Id) -> Option<u64>
+        ensures value { result ≡ option_map serial_of (find (has_id id) self.now) }
+        ensures ordered { AreOrdered self.now }
+    {
+        let Some(near) = near else {
+            return self.serial_of(id);
+        };
+        match self.own(near, id) {
+            Some(serial) => Some(serial),
+            None => self.serial_of(id),
+        }
+    }
+
+    // The number of the room of a number, where that room has an id.
+    fn own(&self, serial: u64, id: Id) -> Option<u64>
+        ensures value { IfSome result (λ n. Some n ≡ option_map serial_of (find (has_id id) self.now)) }
+        ensures ordered { AreOrdered self.now }
+    {
+        match self.get(serial) {
+            Some(stood) if stood.id.0 == id.0 => Some(stood.serial),
+            _ => None,
+        }
     }
 
     /// The room of a number.

@@ -2,13 +2,13 @@
 use room_model::Texts;
 use schema_model::Id;
 
-/// A room of a hub: its number in the order of creation, its id, its definition by position, the criteria of its
-/// creation, and itself.
+/// A room of a hub: the criteria of its creation, its number in the order of creation, its definition by position, its id,
+/// and itself.
 #[derive(Drop)]
 pub struct Stood<R> {
-    pub serial: u64,
-    pub id: Id,
-    pub def: u32,
     pub criteria: Texts,
+    pub serial: u64,
+    pub def: u32,
+    pub id: Id,
     pub room: R,
 }

@@ -30,8 +30,8 @@ use view_members::Members;
 /// A room: its state, its places, and its clients. After it answered want of memory it answers it for good.
 #[derive(Drop)]
 pub struct Room {
-    parts: Parts,
     spent: bool,
+    parts: Parts,
 }
 
 impl Model for Room {

@@ -16,11 +16,11 @@ use std::marker::Model;
 /// logarithmic time.
 #[derive(Drop)]
 pub struct Places {
+    by_token: Index,
+    by_lapse: Index,
     max: u32,
     entries: Vec<SeatEntry>,
     by_session: Index,
-    by_token: Index,
-    by_lapse: Index,
 }
 
 impl Model for Places {

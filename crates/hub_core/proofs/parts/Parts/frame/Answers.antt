@@ -1,4 +1,4 @@
-use Rattle.std.proofs.Common.{[], ◌∷◌, ◌∙◌, sym, ap}
+use Rattle.std.proofs.Common.{[], ◌∷◌, ◌∙◌, Some, sym, ap}
 use Rattle.room_model.specs.declared.event.RoomEvent.TheVariants as event
 use Rattle.room_model.specs.declared.refusal.Refusal.TheVariants as refusal
 use Rattle.hub_model.specs.declared.event.HubEvent.TheVariants as happened
@@ -16,12 +16,12 @@ returns-in_default g c =
     (pushed_ok c.push.result c.push.new.self c.args.told.now (out.Refused refusal.NoConn ∷ []) c.push.ensures)
 
 pub play-requires-clause-happen : goal.play-requires-clause-happen
-play-requires-clause-happen g c = may_frame g.R.RoomLike.room g.R.RoomLike.Holds c.args.self.now c.requires c.args.conn c.in-Some.at c.in-Some.ensures c.in_ok-copy_bytes.field-0
+play-requires-clause-happen g c = may_frame g.R.RoomLike.room g.R.RoomLike.Holds c.args.self.now c.requires c.args.conn c.at.inside.conn (ap Some c.at.view_is ∙ c.in-Some.ensures) c.in_ok-copy_bytes.field-0
 
 pub returns : goal.returns
 returns g c =
     let old = c.args.self.now in
     let h = hub_of g.R.RoomLike.room old in
-    let is = frame_step (rules_of g.R.RoomLike.happens) h c.args.conn c.args.bytes.now c.in-Some.at (sym c.in-Some.ensures) (room_there g.R.RoomLike.room g.R.RoomLike.Holds c.args.self.now c.requires c.args.conn c.in-Some.at c.in-Some.ensures) in
-    takes_played g.R.RoomLike.room g.R.RoomLike.Holds g.R.RoomLike.happens (happened.Frame c.args.conn c.args.bytes.now) old c.play.new.self c.args.told.now c.play.new.told c.in-Some.at.room (event.Frame c.in-Some.at.session c.in_ok-copy_bytes.field-0) c.play.result
-    (is ∙ ap (λ b. played_in g.R.RoomLike.happens h c.in-Some.at.room (event.Frame c.in-Some.at.session b)) (sym c.in_ok-copy_bytes.ensures)) c.play.ensures.hub c.play.ensures.told c.play.ensures.stands
+    let is = frame_step (rules_of g.R.RoomLike.happens) h c.args.conn c.args.bytes.now c.at.inside.conn (sym (ap Some c.at.view_is ∙ c.in-Some.ensures)) (room_there g.R.RoomLike.room g.R.RoomLike.Holds c.args.self.now c.requires c.args.conn c.at.inside.conn (ap Some c.at.view_is ∙ c.in-Some.ensures)) in
+    takes_played g.R.RoomLike.room g.R.RoomLike.Holds g.R.RoomLike.happens (happened.Frame c.args.conn c.args.bytes.now) old c.play.new.self c.args.told.now c.play.new.told c.at.inside.conn.room (event.Frame c.at.inside.conn.session c.in_ok-copy_bytes.field-0) c.play.result
+    (is ∙ ap (λ b. played_in g.R.RoomLike.happens h c.at.inside.conn.room (event.Frame c.at.inside.conn.session b)) (sym c.in_ok-copy_bytes.ensures)) c.play.ensures.hub c.play.ensures.told c.play.ensures.stands

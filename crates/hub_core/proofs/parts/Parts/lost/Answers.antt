@@ -1,4 +1,4 @@
-use Rattle.std.proofs.Common.{[], ◌∷◌, sym}
+use Rattle.std.proofs.Common.{[], ◌∷◌, ◌∙◌, Some, sym, ap}
 use Rattle.room_model.specs.declared.event.RoomEvent.TheVariants as event
 use Rattle.room_model.specs.declared.refusal.Refusal.TheVariants as refusal
 use Rattle.hub_model.specs.declared.event.HubEvent.TheVariants as happened
@@ -15,11 +15,11 @@ returns-in_default g c =
     (pushed_ok c.push.result c.push.new.self c.args.told.now (out.Refused refusal.NoConn ∷ []) c.push.ensures)
 
 pub play-requires-clause-happen : goal.play-requires-clause-happen
-play-requires-clause-happen g c = may_lose g.R.RoomLike.room g.R.RoomLike.Holds c.args.self.now c.requires c.args.conn c.in-Some.at c.in-Some.ensures
+play-requires-clause-happen g c = may_lose g.R.RoomLike.room g.R.RoomLike.Holds c.args.self.now c.requires c.args.conn c.at.inside.conn (ap Some c.at.view_is ∙ c.in-Some.ensures)
 
 pub returns : goal.returns
 returns g c =
     let old = c.args.self.now in
     let h = hub_of g.R.RoomLike.room old in
-    takes_played g.R.RoomLike.room g.R.RoomLike.Holds g.R.RoomLike.happens (happened.Lost c.args.conn) old c.play.new.self c.args.told.now c.play.new.told c.in-Some.at.room (event.Lost c.in-Some.at.session old.moment) c.play.result
-    (lost_step (rules_of g.R.RoomLike.happens) h c.args.conn c.in-Some.at (sym c.in-Some.ensures) (room_there g.R.RoomLike.room g.R.RoomLike.Holds c.args.self.now c.requires c.args.conn c.in-Some.at c.in-Some.ensures)) c.play.ensures.hub c.play.ensures.told c.play.ensures.stands
+    takes_played g.R.RoomLike.room g.R.RoomLike.Holds g.R.RoomLike.happens (happened.Lost c.args.conn) old c.play.new.self c.args.told.now c.play.new.told c.at.inside.conn.room (event.Lost c.at.inside.conn.session old.moment) c.play.result
+    (lost_step (rules_of g.R.RoomLike.happens) h c.args.conn c.at.inside.conn (sym (ap Some c.at.view_is ∙ c.in-Some.ensures)) (room_there g.R.RoomLike.room g.R.RoomLike.Holds c.args.self.now c.requires c.args.conn c.at.inside.conn (ap Some c.at.view_is ∙ c.in-Some.ensures))) c.play.ensures.hub c.play.ensures.told c.play.ensures.stands
