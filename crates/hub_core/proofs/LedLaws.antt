@@ -1,5 +1,5 @@
 -- What a request leads to, by the rooms of one definition, or by one room.
-use Rattle.std.proofs.Common.{◌≡◌, ℕ, zero, suc, ◌+◌, not, ◌≤◌, ◌<◌, ◌&&◌, Bool, true, false, cond, List, [], ◌∷◌, Option, Some, None, filter, length, map, get_or, refl, sym, ap, ap₂, subst, ◌∙◌, arith, codes}
+use Rattle.std.proofs.Common.{◌≡◌, ℕ, zero, suc, ◌+◌, not, ◌<◌, ◌&&◌, Bool, true, false, cond, List, [], ◌∷◌, Option, Some, None, filter, length, map, get_or, refl, sym, ap, ap₂, subst, ◌∙◌, arith, codes}
 use Rattle.std.specs.Prelude.{nat_lt, slice_get, option_and_then}
 use Rattle.std.specs.List.{find, position, position_or_len}
 use Rattle.std.specs.Option.{option_map, option_map_or}
@@ -25,13 +25,14 @@ use Rattle.hub_model.specs.HubValues.{HubRoom, HubValue, listing_of, listings, r
 use Rattle.hub_laws.proofs.Decided.{position_passes}
 use Rattle.hub_laws.proofs.Different.{found_passes, find-map}
 use Rattle.hub_core.proofs.IdleLaws.{and_false}
+use Rattle.hub_core.specs.declared.led.Led.{Led}
 use Rattle.hub_core.specs.declared.parts.Parts.{Parts}
 use Rattle.hub_core.specs.declared.stood.Stood.{Stood}
 use Rattle.hub_model.specs.Ids.{is_id}
 use Rattle.hub_core.specs.Hubs.{InOrder, IsGood, hub_of}
-use Rattle.hub_core.specs.Led.{IsAt, Leads, LedBy, is_by_id, is_made, led_in, listed_alone, the_listing}
+use Rattle.hub_core.specs.Led.{IsAt, Leads, def_named, is_by_id, led_in, listed_alone, oldest_of, oldest_of_def}
 use Rattle.hub_core.specs.Shelved.{is_of_def, shelf_of, shown_of}
-use Rattle.hub_core.specs.Shelves.{Shown, number_of}
+use Rattle.hub_core.specs.Shelves.{Shown}
 use Rattle.hub_core.specs.Stood.{Each, has_id, room_in, rooms_in, serial_of}
 use Rattle.hub_core.proofs.EachLaws.{Each-first, Each-rest}
 use Rattle.hub_core.proofs.PlayLaws.{room_found}
@@ -148,7 +149,7 @@ module _ {R : Type 0} (room : R → RoomValue) (p : Parts R) (q : Request) where
   abbrev named : Listing → Bool
   named r = bytes_eq r.id q.name
 
-  id_nowhere : (m : Method) (kept : Option (List ℕ)) → find (has_id q.name) ss ≡ None → is_by_id m ≡ true → Leads ss (length p.defs) q.criteria (decisions.decided m h.defs (listings h) q kept) (led_in 0 (decisions.decided m h.defs [] q None))
+  id_nowhere : (m : Method) (kept : Option (List ℕ)) → find (has_id q.name) ss ≡ None → is_by_id m ≡ true → Leads ss (length p.defs) q.criteria (decisions.decided m h.defs (listings h) q kept) (led_in 0 [] (decisions.decided m h.defs [] q None))
   id_nowhere method.JoinById kept none by = ap (joined_at (listings h) q.name) (at_none room ss named none)
   id_nowhere method.Reconnect kept none by = ap (kept_at q.name kept) (at_none room ss named none) ∙ nothing kept
     where
@@ -159,7 +160,7 @@ module _ {R : Type 0} (room : R → RoomValue) (p : Parts R) (q : Request) where
   id_nowhere method.Create kept none by = absurd cc
   id_nowhere method.Join kept none by = absurd cc
 
-  pub leads_nowhere : find (has_id q.name) ss ≡ None → is_by_id q.method ≡ true → Leads ss (length p.defs) q.criteria (decide h.defs (listings h) q (kept_session h q)) (led_in 0 (decide h.defs [] q None))
+  pub leads_nowhere : find (has_id q.name) ss ≡ None → is_by_id q.method ≡ true → Leads ss (length p.defs) q.criteria (decide h.defs (listings h) q (kept_session h q)) (led_in 0 [] (decide h.defs [] q None))
   leads_nowhere none by = id_nowhere q.method (kept_session h q) none by
 
   module _ (s : Stood R) (found : find (has_id q.name) ss ≡ Some s) where
@@ -181,21 +182,21 @@ module _ {R : Type 0} (room : R → RoomValue) (p : Parts R) (q : Request) where
     abbrev opens : Bool
     opens = is_open (listing_of (room_in room s))
 
-    open_leads : (b : Bool) → opens ≡ b → Leads ss (length p.defs) q.criteria (joined_at (listings h) q.name (Some place.at)) (led_in s.serial (cond b (decision.Join 0) (room_is_locked q.name)))
+    open_leads : (b : Bool) → opens ≡ b → Leads ss (length p.defs) q.criteria (joined_at (listings h) q.name (Some place.at)) (led_in s.serial [] (cond b (decision.Join 0) (room_is_locked q.name)))
     open_leads true is = (place.at, is_at, ap (λ o. cond (option_map_or is_open o false) (decision.Join place.at) (room_is_locked q.name)) seen ∙ ap (λ b. cond b (decision.Join place.at) (room_is_locked q.name)) is)
     open_leads false is = ap (λ o. cond (option_map_or is_open o false) (decision.Join place.at) (room_is_locked q.name)) seen ∙ ap (λ b. cond b (decision.Join place.at) (room_is_locked q.name)) is
 
-    kept_leads : (kept : Option (List ℕ)) → Leads ss (length p.defs) q.criteria (kept_at q.name kept (Some place.at)) (led_in s.serial (kept_at q.name kept (Some 0)))
+    kept_leads : (kept : Option (List ℕ)) → Leads ss (length p.defs) q.criteria (kept_at q.name kept (Some place.at)) (led_in s.serial [] (kept_at q.name kept (Some 0)))
     kept_leads None = refl
     kept_leads (Some k) = (place.at, is_at, refl)
 
-    id_there : (m : Method) (kept : Option (List ℕ)) → is_by_id m ≡ true → Leads ss (length p.defs) q.criteria (decisions.decided m h.defs (listings h) q kept) (led_in s.serial (decisions.decided m h.defs one q kept))
+    id_there : (m : Method) (kept : Option (List ℕ)) → is_by_id m ≡ true → Leads ss (length p.defs) q.criteria (decisions.decided m h.defs (listings h) q kept) (led_in s.serial [] (decisions.decided m h.defs one q kept))
     id_there method.JoinById kept by =
-        subst (λ o. Leads ss (length p.defs) q.criteria (joined_at (listings h) q.name o) (led_in s.serial (joined_at one q.name (room_at one q.name)))) (sym place.position_is)
-        (subst (λ o. Leads ss (length p.defs) q.criteria (joined_at (listings h) q.name (Some place.at)) (led_in s.serial (joined_at one q.name o))) (sym (position_one named (listed_alone (room_in room s)) own)) (open_leads opens refl))
+        subst (λ o. Leads ss (length p.defs) q.criteria (joined_at (listings h) q.name o) (led_in s.serial [] (joined_at one q.name (room_at one q.name)))) (sym place.position_is)
+        (subst (λ o. Leads ss (length p.defs) q.criteria (joined_at (listings h) q.name (Some place.at)) (led_in s.serial [] (joined_at one q.name o))) (sym (position_one named (listed_alone (room_in room s)) own)) (open_leads opens refl))
     id_there method.Reconnect kept by =
-        subst (λ o. Leads ss (length p.defs) q.criteria (kept_at q.name kept o) (led_in s.serial (kept_at q.name kept (room_at one q.name)))) (sym place.position_is)
-        (subst (λ o. Leads ss (length p.defs) q.criteria (kept_at q.name kept (Some place.at)) (led_in s.serial (kept_at q.name kept o))) (sym (position_one named (listed_alone (room_in room s)) own)) (kept_leads kept))
+        subst (λ o. Leads ss (length p.defs) q.criteria (kept_at q.name kept o) (led_in s.serial [] (kept_at q.name kept (room_at one q.name)))) (sym place.position_is)
+        (subst (λ o. Leads ss (length p.defs) q.criteria (kept_at q.name kept (Some place.at)) (led_in s.serial [] (kept_at q.name kept o))) (sym (position_one named (listed_alone (room_in room s)) own)) (kept_leads kept))
     id_there method.JoinOrCreate kept by = absurd cc
     id_there method.Create kept by = absurd cc
     id_there method.Join kept by = absurd cc
@@ -207,83 +208,41 @@ module _ {R : Type 0} (room : R → RoomValue) (p : Parts R) (q : Request) where
         by_token None = refl
         by_token (Some token) = ap (option_and_then (λ (r : HubRoom). kept_by r.room.seats token)) (room_found room q.name ss ∙ ap (option_map (room_in room)) found)
 
-    pub leads_there : is_by_id q.method ≡ true → Leads ss (length p.defs) q.criteria (decide h.defs (listings h) q (kept_session h q)) (led_in s.serial (decide h.defs (listed_alone (room_in room s) ∷ []) q (option_and_then (kept_by (room s.room).seats) q.token)))
-    leads_there by = subst (λ k. Leads ss (length p.defs) q.criteria (decide h.defs (listings h) q k) (led_in s.serial (decide h.defs one q (option_and_then (kept_by (room s.room).seats) q.token)))) (sym keeps) (id_there q.method (option_and_then (kept_by (room s.room).seats) q.token) by)
-
--- one by id makes no room
-pub id_makes_none : (defs : List RoomDef) (rooms : List Listing) (q : Request) (kept : Option (List ℕ)) → is_by_id q.method ≡ true → is_made (decide defs rooms q kept) ≡ false
-id_makes_none defs rooms q kept by = by_method q.method by
-  where
-    joins : (o : Option ℕ) → is_made (joined_at rooms q.name o) ≡ false
-    joins None = refl
-    joins (Some at) = by_open (option_map_or is_open (slice_get rooms at) false)
-      where
-        by_open : (b : Bool) → is_made (cond b (decision.Join at) (room_is_locked q.name)) ≡ false
-        by_open true = refl
-        by_open false = refl
-
-    keeps : (k : Option (List ℕ)) (o : Option ℕ) → is_made (kept_at q.name k o) ≡ false
-    keeps None None = refl
-    keeps (Some k) None = refl
-    keeps None (Some at) = refl
-    keeps (Some k) (Some at) = refl
-
-    by_method : (m : Method) → is_by_id m ≡ true → is_made (decisions.decided m defs rooms q kept) ≡ false
-    by_method method.JoinById by = joins (room_at rooms q.name)
-    by_method method.Reconnect by = keeps kept (room_at rooms q.name)
-    by_method method.JoinOrCreate by = absurd cc
-    by_method method.Create by = absurd cc
-    by_method method.Join by = absurd cc
+    pub leads_there : is_by_id q.method ≡ true → Leads ss (length p.defs) q.criteria (decide h.defs (listings h) q (kept_session h q)) (led_in s.serial [] (decide h.defs (listed_alone (room_in room s) ∷ []) q (option_and_then (kept_by (room s.room).seats) q.token)))
+    leads_there by = subst (λ k. Leads ss (length p.defs) q.criteria (decide h.defs (listings h) q k) (led_in s.serial [] (decide h.defs one q (option_and_then (kept_by (room s.room).seats) q.token)))) (sym keeps) (id_there q.method (option_and_then (kept_by (room s.room).seats) q.token) by)
 
 -- ---- by a definition
 
 module _ {R : Type 0} (room : R → RoomValue) (ss : List (Stood R)) (def count : ℕ) (q : Request) (within : def < count) where
-  abbrev fs : List (Stood R)
-  fs = filter (is_of_def def) ss
-
-  abbrev shelf : List Shown
-  shelf = shelf_of room def ss
-
   abbrev fits : Listing → Bool
   fits = meets def q.criteria
 
-  shelf_all : (xs : List (Stood R)) → map the_listing (map (shown_of room) xs) ≡ map listing_of (rooms_in room xs)
-  shelf_all [] = refl
-  shelf_all (x ∷ xs) = ap (λ l. listing_of (room_in room x) ∷ l) (shelf_all xs)
+  module _ (s : Stood R) (found : find (λ s. fits (listing_of (room_in room s))) ss ≡ Some s) where
+    abbrev alone : List Listing
+    alone = listing_of (room_in room s) ∷ []
 
-  wider : (s : Stood R) → is_of_def def s ≡ false → fits (listing_of (room_in room s)) ≡ false
-  wider s other = ap (λ b. is_open (listing_of (room_in room s)) && (b && texts_eq s.criteria q.criteria)) other ∙ and_false (is_open (listing_of (room_in room s)))
+    passes : fits (listing_of (room_in room s)) ≡ true
+    passes = found_passes (λ s. fits (listing_of (room_in room s))) ss s found
 
-  same_found : find (λ s. fits (listing_of (room_in room s))) fs ≡ find (λ s. fits (listing_of (room_in room s))) ss
-  same_found = find_within (λ s. fits (listing_of (room_in room s))) (is_of_def def) ss wider
+    joins : (other : Decision) → Leads ss count q.criteria (joined_or other (position fits (all room ss))) (led_in s.serial q.criteria (joined_or other (position fits alone)))
+    joins other =
+        let whole = at_place room ss fits s found in
+        subst (λ o. Leads ss count q.criteria (joined_or other (position fits (all room ss))) (led_in s.serial q.criteria (joined_or other o))) (sym (position_one fits (listing_of (room_in room s)) passes))
+        (whole.at, record { it = s; is = whole.there; number = refl }, ap (joined_or other) whole.position_is)
 
-  oldest_leads : (other : Decision) → ((d : Decision) → d ≡ other → LedBy ss count d shelf other) → LedBy ss count (joined_or other (position fits (all room ss))) shelf (joined_or other (position fits (map the_listing shelf)))
-  oldest_leads other same = by_found (find (λ s. fits (listing_of (room_in room s))) ss) refl
-    where
-      by_found : (o : Option (Stood R)) → find (λ s. fits (listing_of (room_in room s))) ss ≡ o → LedBy ss count (joined_or other (position fits (all room ss))) shelf (joined_or other (position fits (map the_listing shelf)))
-      by_found None none =
-          let whole : position fits (all room ss) ≡ None = at_none room ss fits none in
-          let small : position fits (map the_listing shelf) ≡ None = ap (position fits) (shelf_all fs) ∙ at_none room fs fits (same_found ∙ none) in
-          subst (λ o. LedBy ss count (joined_or other (position fits (all room ss))) shelf (joined_or other o)) (sym small) (same (joined_or other (position fits (all room ss))) (ap (joined_or other) whole))
-      by_found (Some s) found =
-          let whole = at_place room ss fits s found in
-          let small = at_place room fs fits s (same_found ∙ found) in
-          let small_is : position fits (map the_listing shelf) ≡ Some small.at = ap (position fits) (shelf_all fs) ∙ small.position_is in
-          subst (λ o. LedBy ss count (joined_or other (position fits (all room ss))) shelf (joined_or other o)) (sym small_is)
-          (record {
-            number = s.serial;
-            on = ap (option_map number_of) (slice_get-map (shown_of room) fs small.at ∙ ap (option_map (shown_of room)) small.there);
-            at = whole.at;
-            here = record { it = s; is = whole.there; number = refl };
-            is = ap (joined_or other) whole.position_is;
-          })
+    pub some_leads : (m : Method) → is_by_id m ≡ false → Leads ss count q.criteria (in_def m (all room ss) q def) (led_in s.serial q.criteria (in_def m alone q def))
+    some_leads method.JoinOrCreate by = joins (decision.Make def)
+    some_leads method.Join by = joins (decision.Refuse 4211 (codes "no room meets the criteria"))
+    some_leads method.Create by = (refl, refl, within)
+    some_leads method.JoinById by = absurd cc
+    some_leads method.Reconnect by = absurd cc
 
-  in_leads : (m : Method) → is_by_id m ≡ false → LedBy ss count (in_def m (all room ss) q def) shelf (in_def m (map the_listing shelf) q def)
-  in_leads method.JoinOrCreate by = oldest_leads (decision.Make def) (λ d is. (is, within))
-  in_leads method.Join by = oldest_leads (decision.Refuse 4211 (codes "no room meets the criteria")) (λ d is. is)
-  in_leads method.Create by = (refl, within)
-  in_leads method.JoinById by = absurd cc
-  in_leads method.Reconnect by = absurd cc
+  pub none_leads : find (λ s. fits (listing_of (room_in room s))) ss ≡ None → (m : Method) → is_by_id m ≡ false → Leads ss count q.criteria (in_def m (all room ss) q def) (led_in 0 q.criteria (in_def m [] q def))
+  none_leads none method.JoinOrCreate by = (ap (joined_or (decision.Make def)) (at_none room ss fits none), refl, within)
+  none_leads none method.Join by = ap (joined_or (decision.Refuse 4211 (codes "no room meets the criteria"))) (at_none room ss fits none)
+  none_leads none method.Create by = (refl, refl, within)
+  none_leads none method.JoinById by = absurd cc
+  none_leads none method.Reconnect by = absurd cc
 
 -- ---- which definition
 
@@ -297,34 +256,63 @@ by_def_is defs rooms q kept by = by_method q.method by
     by_method method.JoinById by = absurd cc
     by_method method.Reconnect by = absurd cc
 
-abbrev pub def_named : List ℕ → RoomDef → Bool
-def_named name d = bytes_eq d.name name
+module _ {R : Type 0} (room : R → RoomValue) (p : Parts R) (q : Request) (by : is_by_id q.method ≡ false) where
+  abbrev pub among : List (Stood R)
+  among = p.registry.rooms
 
-pub leads_by_def : {R : Type 0} (room : R → RoomValue) (p : Parts R) (q : Request) (def : ℕ) (on : List Shown) → is_by_id q.method ≡ false → Some def ≡ position (def_named q.name) p.defs → on ≡ shelf_of room def p.registry.rooms
-    → LedBy p.registry.rooms (length p.defs) (decide p.defs (listings (hub_of room p)) q (kept_session (hub_of room p) q)) on (decide p.defs (map the_listing on) q None)
-leads_by_def {R = R} room p q def on by is shelf_is =
-    let within : def < length p.defs = (let here = position_passes (def_named q.name) p.defs def (sym is) in slice_get_within p.defs def here.0 here.1) in
-    subst (λ k. LedBy p.registry.rooms (length p.defs) (decide p.defs (listings (hub_of room p)) q (kept_session (hub_of room p) q)) k (decide p.defs (map the_listing k) q None)) (sym shelf_is)
-    (subst (λ d. LedBy p.registry.rooms (length p.defs) d (shelf_of room def p.registry.rooms) (decide p.defs (map the_listing (shelf_of room def p.registry.rooms)) q None)) (sym (by_def_is p.defs (listings (hub_of room p)) q (kept_session (hub_of room p) q) by))
-    (subst (λ d. LedBy p.registry.rooms (length p.defs) (decisions.by_def p.defs (listings (hub_of room p)) q) (shelf_of room def p.registry.rooms) d) (sym (by_def_is p.defs (map the_listing (shelf_of room def p.registry.rooms)) q None by))
-    (subst (λ o. LedBy p.registry.rooms (length p.defs) (option_map_or (in_def q.method (listings (hub_of room p)) q) o (decision.Refuse 4210 (codes "no handler"))) (shelf_of room def p.registry.rooms) (option_map_or (in_def q.method (map the_listing (shelf_of room def p.registry.rooms)) q) o (decision.Refuse 4210 (codes "no handler")))) is
-    (in_leads room p.registry.rooms def (length p.defs) q within q.method by))))
+  abbrev pub whole : Decision
+  whole = decide p.defs (listings (hub_of room p)) q (kept_session (hub_of room p) q)
 
-pub leads_by_none : {R : Type 0} (room : R → RoomValue) (p : Parts R) (q : Request) (shelf : List Shown) → is_by_id q.method ≡ false → None ≡ position (def_named q.name) p.defs
-    → LedBy p.registry.rooms (length p.defs) (decide p.defs (listings (hub_of room p)) q (kept_session (hub_of room p) q)) shelf (decide p.defs (map the_listing shelf) q None)
-leads_by_none {R = R} room p q shelf by none =
-    subst (λ d. LedBy p.registry.rooms (length p.defs) d shelf (decide p.defs (map the_listing shelf) q None)) (sym (by_def_is p.defs (listings (hub_of room p)) q (kept_session (hub_of room p) q) by))
-    (subst (λ d. LedBy p.registry.rooms (length p.defs) (decisions.by_def p.defs (listings (hub_of room p)) q) shelf d) (sym (by_def_is p.defs (map the_listing shelf) q None by))
-    (subst (λ o. LedBy p.registry.rooms (length p.defs) (option_map_or (in_def q.method (listings (hub_of room p)) q) o (decision.Refuse 4210 (codes "no handler"))) shelf (option_map_or (in_def q.method (map the_listing shelf) q) o (decision.Refuse 4210 (codes "no handler")))) none refl))
+  abbrev decided_in : List Listing → Option ℕ → Decision
+  decided_in rooms o = option_map_or (in_def q.method rooms q) o (decision.Refuse 4210 (codes "no handler"))
 
--- no more rooms are on a shelf than there are
-pub shelf_within : {R : Type 0} (room : R → RoomValue) (def : ℕ) (ss : List (Stood R)) → length (shelf_of room def ss) ≤ length ss
-shelf_within room def [] = grind arith
-shelf_within {R = R} room def (x ∷ ss) = by_test (is_of_def def x) (shelf_within room def ss)
+  within_defs : (def : ℕ) → position (def_named q.name) p.defs ≡ Some def → def < length p.defs
+  within_defs def is = (let here = position_passes (def_named q.name) p.defs def is in slice_get_within p.defs def here.0 here.1)
+
+  as_by_def : (rooms : List Listing) (led : Decision → Led) (o : Option ℕ) → position (def_named q.name) p.defs ≡ o
+      → Leads among (length p.defs) q.criteria (decided_in (listings (hub_of room p)) o) (led (decided_in rooms o)) → Leads among (length p.defs) q.criteria whole (led (decide p.defs rooms q None))
+  as_by_def rooms led o is leads =
+      let all_is : whole ≡ decided_in (listings (hub_of room p)) o = by_def_is p.defs (listings (hub_of room p)) q (kept_session (hub_of room p) q) by ∙ ap (decided_in (listings (hub_of room p))) is in
+      let few_is : decide p.defs rooms q None ≡ decided_in rooms o = by_def_is p.defs rooms q None by ∙ ap (decided_in rooms) is in
+      subst (λ d. Leads among (length p.defs) q.criteria d (led (decide p.defs rooms q None))) (sym all_is)
+      (subst (λ d. Leads among (length p.defs) q.criteria (decided_in (listings (hub_of room p)) o) (led d)) (sym few_is) leads)
+
+  pub leads_some : (shown : Shown) → oldest_of room among p.defs q.name q.criteria ≡ Some shown → Leads among (length p.defs) q.criteria whole (led_in shown.0 q.criteria (decide p.defs (shown.1 ∷ []) q None))
+  leads_some shown is = by_def (position (def_named q.name) p.defs) refl is
+    where
+      by_found : (def : ℕ) → position (def_named q.name) p.defs ≡ Some def → (o : Option (Stood R)) → find (λ s. meets def q.criteria (listing_of (room_in room s))) among ≡ o → option_map (shown_of room) o ≡ Some shown
+          → Leads among (length p.defs) q.criteria whole (led_in shown.0 q.criteria (decide p.defs (shown.1 ∷ []) q None))
+      by_found def there None found is = absurd cc
+      by_found def there (Some s) found is =
+          let same : shown_of room s ≡ shown = cc in
+          subst (λ (x : Shown). Leads among (length p.defs) q.criteria whole (led_in x.0 q.criteria (decide p.defs (x.1 ∷ []) q None))) same
+          (as_by_def (listing_of (room_in room s) ∷ []) (led_in s.serial q.criteria) (Some def) there (some_leads room among def (length p.defs) q (within_defs def there) s found q.method by))
+
+      by_def : (o : Option ℕ) → position (def_named q.name) p.defs ≡ o → option_and_then (oldest_of_def room among q.criteria) o ≡ Some shown
+          → Leads among (length p.defs) q.criteria whole (led_in shown.0 q.criteria (decide p.defs (shown.1 ∷ []) q None))
+      by_def None there is = absurd cc
+      by_def (Some def) there is = by_found def there (find (λ s. meets def q.criteria (listing_of (room_in room s))) among) refl is
+
+  pub leads_none : oldest_of room among p.defs q.name q.criteria ≡ None → Leads among (length p.defs) q.criteria whole (led_in 0 q.criteria (decide p.defs [] q None))
+  leads_none is = by_def (position (def_named q.name) p.defs) refl is
+    where
+      by_found : (def : ℕ) → position (def_named q.name) p.defs ≡ Some def → (o : Option (Stood R)) → find (λ s. meets def q.criteria (listing_of (room_in room s))) among ≡ o → option_map (shown_of room) o ≡ None
+          → Leads among (length p.defs) q.criteria whole (led_in 0 q.criteria (decide p.defs [] q None))
+      by_found def there (Some s) found is = absurd cc
+      by_found def there None found is = as_by_def [] (led_in 0 q.criteria) (Some def) there (none_leads room among def (length p.defs) q (within_defs def there) found q.method by)
+
+      by_def : (o : Option ℕ) → position (def_named q.name) p.defs ≡ o → option_and_then (oldest_of_def room among q.criteria) o ≡ None → Leads among (length p.defs) q.criteria whole (led_in 0 q.criteria (decide p.defs [] q None))
+      by_def None there is = as_by_def [] (led_in 0 q.criteria) None there refl
+      by_def (Some def) there is = by_found def there (find (λ s. meets def q.criteria (listing_of (room_in room s))) among) refl is
+
+-- the oldest on the shelf of a definition is the oldest of all that are of it
+pub oldest_shelved : {R : Type 0} (room : R → RoomValue) (ss : List (Stood R)) (criteria : List (List ℕ)) (def : ℕ) → find (λ (s : Shown). meets def criteria s.1) (shelf_of room def ss) ≡ oldest_of_def room ss criteria def
+oldest_shelved {R = R} room ss criteria def =
+    find-map (λ (s : Shown). meets def criteria s.1) (shown_of room) (filter (is_of_def def) ss)
+    ∙ ap (option_map (shown_of room)) (find_within (λ s. meets def criteria (listing_of (room_in room s))) (is_of_def def) ss wider)
   where
-    by_test : (b : Bool) → length (shelf_of room def ss) ≤ length ss → length (map (shown_of room) (cond b (x ∷ filter (is_of_def def) ss) (filter (is_of_def def) ss))) ≤ suc (length ss)
-    by_test true less = grind (arith, less)
-    by_test false less = grind (arith, less)
+    wider : (s : Stood R) → is_of_def def s ≡ false → meets def criteria (listing_of (room_in room s)) ≡ false
+    wider s other = ap (λ b. is_open (listing_of (room_in room s)) && (b && texts_eq s.criteria criteria)) other ∙ and_false (is_open (listing_of (room_in room s)))
 
 -- ---- ids
 

@@ -1,5 +1,5 @@
 -- What a hub is, and what it takes. Ours.
-use Rattle.std.specs.Prelude.{ℕ, ◌-◌, ◌^◌, Bool, true, not, ◌&&◌, List, [], ◌∷◌, length, nat_le, nat_lt}
+use Rattle.std.specs.Prelude.{ℕ, Bool, true, not, ◌&&◌, List, [], ◌∷◌, length, nat_le}
 use Rattle.std.specs.List.{list_all, list_any}
 use Rattle.std.specs.Str.{bytes_eq}
 use Rattle.room_model.specs.declared.definition.RoomDef.{RoomDef}
@@ -28,13 +28,13 @@ names_differ (d ∷ ds) = not (list_any (λ (e : RoomDef). bytes_eq d.name e.nam
 abbrev pub are_hub_defs : List RoomDef → Bool
 are_hub_defs defs = nat_le (length defs) most_defs && (list_all is_room_def defs && names_differ defs)
 
--- an event that a hub takes: a request with ids that were drawn, while there are fewer than 2^32 - 1 rooms; an opening with a
--- token that was drawn; an act within the limits; any other event
-abbrev pub may_take : HubValue → HubEvent → Bool
-may_take h (Ask conn target body room session) = nat_lt (length h.rooms) (2 ^ 32 - 1) && (is_id room && is_id session)
-may_take h (Opening conn target fresh) = is_id fresh
-may_take h (Acted room a) = may_act a
-may_take h e = true
+-- an event that a hub takes: a request with ids that were drawn; an opening with a token that was drawn; an act within the
+-- limits; any other event
+abbrev pub may_take : HubEvent → Bool
+may_take (Ask conn target body room session) = is_id room && is_id session
+may_take (Opening conn target fresh) = is_id fresh
+may_take (Acted room a) = may_act a
+may_take e = true
 
 -- the texts that an event's command puts are UTF-8
 abbrev pub is_worded : HubEvent → Bool

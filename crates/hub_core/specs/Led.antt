@@ -1,16 +1,23 @@
 -- What requests lead to, with rooms by their numbers. Ours.
-use Rattle.std.specs.Prelude.{◌≡◌, ◌<◌, ℕ, Bool, true, false, List, [], Option, Some, None, option_map, slice_get, if◌then◌else◌}
+use Rattle.std.specs.Prelude.{◌≡◌, ◌<◌, ℕ, Bool, true, false, List, [], Option, Some, None, option_and_then, option_map, slice_get, if◌then◌else◌}
+use Rattle.std.specs.List.{find, position}
+use Rattle.std.specs.Str.{bytes_eq}
+use Rattle.room_model.specs.declared.definition.RoomDef.{RoomDef}
+use Rattle.room_model.specs.Room.{RoomValue}
 use Rattle.hub_model.specs.declared.request.Decision.{Decision}
 use Rattle.hub_model.specs.declared.request.Decision.TheVariants as decision
 use Rattle.room_model.specs.Seats.{in_use}
 use Rattle.hub_model.specs.declared.request.Listing.{Listing}
 use Rattle.hub_model.specs.declared.request.Method.{Method}
 use Rattle.hub_model.specs.declared.request.Method.TheVariants.{JoinById, Reconnect}
-use Rattle.hub_model.specs.HubValues.{HubRoom}
+use Rattle.hub_model.specs.Decisions.{meets}
+use Rattle.hub_model.specs.HubValues.{HubRoom, listing_of}
 use Rattle.hub_core.specs.declared.led.Led.{Led}
 use Rattle.hub_core.specs.declared.led.Led.TheVariants.{Refuse, Join, Make, Return}
 use Rattle.hub_core.specs.declared.stood.Stood.{Stood}
-use Rattle.hub_core.specs.Shelves.{Shown, number_of}
+use Rattle.hub_core.specs.Shelved.{shown_of}
+use Rattle.hub_core.specs.Shelves.{Shown}
+use Rattle.hub_core.specs.Stood.{room_in}
 
 -- the room of a number stands at a place
 pub record IsAt {R : Type 0} (ss : List (Stood R)) (n at : ℕ) : Type 0 where
@@ -31,17 +38,12 @@ used_of is_used (Make def texts) room session = if is_used room then Some room e
 used_of is_used (Join n) room session = if is_used session then Some session else None
 used_of is_used led room session = None
 
--- a decision about one room, of a number
-abbrev pub led_in : ℕ → Decision → Led
-led_in n (decision.Refuse code text) = Refuse code text
-led_in n (decision.Join at) = Join n
-led_in n (decision.Make def) = Refuse 0 []
-led_in n (decision.Return at session) = Return n session
-
--- it makes no room
-abbrev pub is_made : Decision → Bool
-is_made (decision.Make def) = true
-is_made d = false
+-- a decision about one room, of a number; a new room is given criteria
+abbrev pub led_in : ℕ → List (List ℕ) → Decision → Led
+led_in n criteria (decision.Refuse code text) = Refuse code text
+led_in n criteria (decision.Join at) = Join n
+led_in n criteria (decision.Make def) = Make def criteria
+led_in n criteria (decision.Return at session) = Return n session
 
 -- a room as a request sees it that names it
 abbrev pub listed_alone : HubRoom → Listing
@@ -53,20 +55,14 @@ is_by_id JoinById = true
 is_by_id Reconnect = true
 is_by_id m = false
 
--- a room on a shelf, as it stands among all
-pub record Joined {R : Type 0} (ss : List (Stood R)) (whole : Decision) (shelf : List Shown) (i : ℕ) : Type 0 where
-  pub number : ℕ
-  pub on : option_map number_of (slice_get shelf i) ≡ Some number
-  pub at : ℕ
-  pub here : IsAt ss number at
-  pub is : whole ≡ decision.Join at
+-- the first definition of a name
+abbrev pub def_named : List ℕ → RoomDef → Bool
+def_named name d = bytes_eq d.name name
 
--- what a decision over a shelf tells of the one over all rooms
-abbrev pub LedBy : {R : Type 0} → List (Stood R) → ℕ → Decision → List Shown → Decision → Type 0
-LedBy ss count whole shelf (decision.Refuse code text) = whole ≡ decision.Refuse code text
-LedBy ss count whole shelf (decision.Make def) = (whole ≡ decision.Make def) × (def < count)
-LedBy ss count whole shelf (decision.Join i) = Joined ss whole shelf i
-LedBy ss count whole shelf (decision.Return i session) = ⊥
+-- the oldest room that is open, of a definition, and has these criteria
+abbrev pub oldest_of_def : {R : Type 0} → (R → RoomValue) → List (Stood R) → List (List ℕ) → ℕ → Option Shown
+oldest_of_def room ss criteria def = option_map (shown_of room) (find (λ s. meets def criteria (listing_of (room_in room s))) ss)
 
-abbrev pub the_listing : Shown → Listing
-the_listing s = s.1
+-- the same for the definition of a name
+abbrev pub oldest_of : {R : Type 0} → (R → RoomValue) → List (Stood R) → List RoomDef → List ℕ → List (List ℕ) → Option Shown
+oldest_of room ss defs name criteria = option_and_then (oldest_of_def room ss criteria) (position (def_named name) defs)

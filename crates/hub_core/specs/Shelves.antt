@@ -1,5 +1,5 @@
 -- The rooms of a definition, as requests see them.
-use Rattle.std.specs.Prelude.{ℕ, Bool, ◌==◌, List, [], ◌∷◌, if◌then◌else◌}
+use Rattle.std.specs.Prelude.{ℕ, Bool, ◌==◌, if◌then◌else◌}
 use Rattle.hub_model.specs.declared.request.Listing.{Listing}
 
 -- a room with its number
@@ -8,11 +8,6 @@ Shown = ℕ × Listing
 
 abbrev pub number_of : Shown → ℕ
 number_of s = s.0
-
--- numbers with their rooms
-abbrev pub shown : List ℕ → List Listing → List Shown
-shown (n ∷ ns) (l ∷ ls) = (n, l) ∷ shown ns ls
-shown ns ls = []
 
 -- a room with how far it is taken now
 abbrev pub with_state : Bool → ℕ → ℕ → Listing → Listing

@@ -60,3 +60,7 @@ pub record IsStepped {R : Type 0} (room : R → RoomValue) (is_spent : R → Boo
   pub rooms : new ≡ put serial_of now old
   pub is : room_in room now ≡ record { id = was.id; def = was.def; criteria = was.criteria; room = after }
   pub fresh : is_spent now.room ≡ false
+
+-- all but the room itself is as it was
+abbrev pub Kept : {R : Type 0} → Stood R → Stood R → Type 0
+Kept s t = t ≡ record { criteria = s.criteria; serial = s.serial; def = s.def; id = s.id; room = t.room }

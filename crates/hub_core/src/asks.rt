@@ -1,5 +1,5 @@
 //! Requests for a seat.
-ghost use Rattle.std.specs.Prelude.{◌≡◌, ◌-◌, ◌<◌, ◌^◌, length, IsTrue, OnOk};
+ghost use Rattle.std.specs.Prelude.{◌≡◌, IsTrue, OnOk};
 ghost use Rattle.hub_model.specs.declared.event.HubEvent.TheVariants as event;
 ghost use Rattle.hub_model.specs.Ids.{is_id};
 ghost use Rattle.hub_core.specs.Hubs.{Stands};
@@ -29,7 +29,6 @@ impl<R: RoomLike> Parts<R> {
         steps: &mut Steps<L>,
     ) -> Result<(), Memory>
         requires stands { Stands R.room R.Holds self.old }
-        requires few { length self.old.registry.rooms < 2 ^ 32 - 1 }
         requires room { IsTrue (is_id room) }
         requires session { IsTrue (is_id session) }
         ensures { OnOk result (Takes R.room R.Holds R.happens (event.Ask conn target.now body.now room session) self.old self.new told.old told.new) }

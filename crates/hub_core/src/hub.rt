@@ -1,5 +1,5 @@
 //! The hub.
-ghost use Rattle.std.specs.Prelude.{◌≡◌, ◌-◌, ◌^◌, length, nat_lt, true, false, Some, is_some, option_map, slice_get, IfOk, IfSome, IsErr, IsTrue, OnErr, OnOk};
+ghost use Rattle.std.specs.Prelude.{◌≡◌, true, false, Some, is_some, option_map, slice_get, IfOk, IfSome, IsErr, IsTrue, OnErr, OnOk};
 ghost use Rattle.hub_model.specs.HubStep.{hub_step};
 ghost use Rattle.hub_model.specs.HubValues.{new_hub, room_of};
 ghost use Rattle.hub_model.specs.Ids.{is_id};
@@ -19,9 +19,6 @@ use std::alloc::Global;
 use std::marker::Model;
 use std::sync::ledger::Ledger;
 use steps::Steps;
-
-/// How many rooms a hub has at most.
-pub const MOST_ROOMS: u64 = (1 << 32) - 1;
 
 /// A hub of rooms, with its connections and its moment. After it answered want of memory it answers it for good.
 #[derive(Drop)]
@@ -57,26 +54,17 @@ impl<R: RoomLike> Hub<R> {
         })
     }
 
-    /// Whether an event may come now: then `step` takes it. The ids that come with a request and with an opening were drawn of
-    /// the characters of ids, there are fewer than `MOST_ROOMS` rooms at a request, and an act is within the limits.
+    /// Whether an event may come: then `step` takes it. The ids that come with a request and with an opening were drawn of the
+    /// characters of ids, and an act is within the limits.
     pub fn takes(&self, event: &HubEvent) -> bool
-        ensures { result ≡ may_take self.now.hub event.now }
+        ensures { result ≡ may_take event.now }
     {
         match event {
-            HubEvent::Ask { room, session, .. } => {
-                self.has_room_left() && is_id(*room) && is_id(*session)
-            }
+            HubEvent::Ask { room, session, .. } => is_id(*room) && is_id(*session),
             HubEvent::Opening { fresh, .. } => is_id(*fresh),
             HubEvent::Act { act, .. } => act.is_within_limits(),
             _ => true,
         }
-    }
-
-    // There are fewer rooms than a hub has at most.
-    fn has_room_left(&self) -> bool
-        ensures { result ≡ nat_lt (length self.now.hub.rooms) (2 ^ 32 - 1) }
-    {
-        (self.parts.registry.rooms.len() as u64) < MOST_ROOMS
     }
 
     /// The hub's step, and what it gives. Unless the hub is spent, it is an event that the hub takes; any event may come to a
@@ -86,7 +74,7 @@ impl<R: RoomLike> Hub<R> {
         event: &HubEvent,
         steps: &mut Steps<L>,
     ) -> Result<HubOuts, Memory>
-        requires { self.old.spent ≡ false → IsTrue (may_take self.old.hub event.now) }
+        requires { self.old.spent ≡ false → IsTrue (may_take event.now) }
         ensures outs { IfOk result (λ outs. outs ≡ (hub_step (rules_of R.happens) self.old.hub event.now).1) }
         ensures after { OnOk result (self.new ≡ record { hub = (hub_step (rules_of R.happens) self.old.hub event.now).0; spent = false }) }
         ensures spent { OnErr result (self.new.spent ≡ true) }
@@ -115,11 +103,25 @@ impl<R: RoomLike> Hub<R> {
         }
     }
 
-    /// The id of the room of a place, in the order of creation.
+    /// The id of the room of a place, in the order of creation. It passes over the rooms before it.
     pub fn nth_room(&self, n: u32) -> Option<Id>
         ensures { result ≡ option_map (λ r. r.id) (slice_get self.now.hub.rooms n) }
     {
-        self.parts.registry.rooms.nth(n)
+        match self.parts.registry.rooms.nth(n) {
+            Some(stood) => Some(stood.id),
+            None => None,
+        }
+    }
+
+    /// The room of a place, in the order of creation. It passes over the rooms before it.
+    pub fn room_at(&self, n: u32) -> Option<&R>
+        ensures there { is_some result ≡ is_some (slice_get self.now.hub.rooms n) }
+        ensures room { IfSome result (λ r. option_map (λ r. r.room) (slice_get self.now.hub.rooms n) ≡ Some (R.room r.now)) }
+    {
+        match self.parts.registry.rooms.nth(n) {
+            Some(stood) => Some(&stood.room),
+            None => None,
+        }
     }
 
     /// The moment, in milliseconds.
@@ -139,7 +141,7 @@ impl<R: RoomLike> Parts<R> {
         steps: &mut Steps<L>,
     ) -> Result<(), Memory>
         requires stands { Stands R.room R.Holds self.old }
-        requires may { IsTrue (may_take (hub_of R.room self.old) event.now) }
+        requires may { IsTrue (may_take event.now) }
         ensures { OnOk result (Takes R.room R.Holds R.happens event.now self.old self.new told.old told.new) }
     {
         match event {

@@ -24,5 +24,5 @@ mod stood;
 mod tell;
 
 pub use defs::{MOST_DEFS, are_hub_defs};
-pub use hub::{Hub, MOST_ROOMS};
+pub use hub::Hub;
 pub use hub_model::{HubEvent, HubOut, HubOuts};

@@ -112,7 +112,7 @@ impl<R: RoomLike> Registry<R> {
             criteria: copy_texts(alloc, &criteria)?,
         };
         let lapse = room.next_lapse();
-        let serial = self.rooms.push(id, def, criteria, room)?;
+        let serial = self.rooms.push(alloc, id, def, criteria, room)?;
         shelve(def, serial, listing, &mut self.shelves)?;
         self.lapses.change(serial, None, lapse)?;
         Ok(serial)

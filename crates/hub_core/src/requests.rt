@@ -10,26 +10,27 @@ ghost use Rattle.hub_model.specs.Requests.{read_request};
 ghost use Rattle.matchmaker.specs.Bodies.{said_by};
 ghost use Rattle.hub_core.specs.Homes.{has_in, home_in};
 ghost use Rattle.hub_core.specs.Hubs.{Stands, hub_of};
-ghost use Rattle.hub_core.specs.Led.{LedBy, Leads, is_by_id, is_made, led_in, listed_alone, the_listing, used_of};
+ghost use Rattle.hub_core.specs.Led.{Leads, is_by_id, led_in, listed_alone, oldest_of, used_of};
 ghost use Rattle.hub_core.specs.declared.led.Led.TheVariants as leads;
 ghost use Rattle.hub_core.specs.Stood.{has_id, room_in};
 
 use crate::led::Led;
 use crate::parts::Parts;
-use crate::shelf::Shelf;
+use crate::shelf::Shown;
 use crate::stood::Stood;
 use hub_model::{AskFault, Decision, Listing, Method, Request};
 use lists::{Memory, Seq, Text};
 use matchmaker::{decide, def_at, id_of, read_request};
 use room_like::RoomLike;
+use room_model::Texts;
 use schema_model::Id;
 use std::alloc::Global;
+use std::array::from_ref;
 
 impl<R: RoomLike> Parts<R> {
     /// What a target and a body lead to, before drawn ids are looked at.
     pub fn led(&self, target: &str, body: &[u8]) -> Result<Led, Memory>
-        requires stands { Stands R.room R.Holds self.now }
-        requires few { length self.now.registry.rooms < 2 ^ 32 }
+        requires { Stands R.room R.Holds self.now }
         ensures { IfOk result (Leads self.now.registry.rooms (length self.now.defs) (criteria_of (read_request self.now.defs target.now (said_by body.now))) (led (hub_of R.room self.now) (read_request self.now.defs target.now (said_by body.now)))) }
     {
         match read_request(self.alloc, self.defs.as_slice(), target, body) {
@@ -43,8 +44,7 @@ impl<R: RoomLike> Parts<R> {
 
     // What a request leads to.
     fn decided(&self, request: Request) -> Result<Led, Memory>
-        requires stands { Stands R.room R.Holds self.now }
-        requires few { length self.now.registry.rooms < 2 ^ 32 }
+        requires { Stands R.room R.Holds self.now }
         ensures { IfOk result (Leads self.now.registry.rooms (length self.now.defs) request.criteria (led (hub_of R.room self.now) (Ok request))) }
     {
         match request.method {
@@ -59,14 +59,15 @@ impl<R: RoomLike> Parts<R> {
         requires by_id { is_by_id request.now.method ≡ true }
         ensures { IfOk result (Leads self.now.registry.rooms (length self.now.defs) request.now.criteria (led (hub_of R.room self.now) (Ok request.now))) }
     {
+        let criteria = Seq::new(self.alloc);
         let Some(stood) = self.named(request.name.as_str()) else {
             let decision = decide(self.alloc, self.defs.as_slice(), &[], request, None)?;
-            return Ok(in_room(decision, 0));
+            return Ok(in_room(decision, 0, criteria));
         };
         let rooms = [alone(self.alloc, stood)];
         let kept = kept_by(&stood.room, request.token);
         let decision = decide(self.alloc, self.defs.as_slice(), &rooms, request, kept)?;
-        Ok(in_room(decision, stood.serial))
+        Ok(in_room(decision, stood.serial, criteria))
     }
 
     // The room of a name that is its id.
@@ -81,38 +82,29 @@ impl<R: RoomLike> Parts<R> {
     // The same by the definition of its name, of which alone the rooms are looked at.
     fn decided_by_def(&self, request: Request) -> Result<Led, Memory>
         requires stands { Stands R.room R.Holds self.now }
-        requires few { length self.now.registry.rooms < 2 ^ 32 }
         requires by_def { is_by_id request.method ≡ false }
         ensures { IfOk result (Leads self.now.registry.rooms (length self.now.defs) request.criteria (led (hub_of R.room self.now) (Ok request))) }
     {
-        match def_at(self.defs.as_slice(), request.name.as_str()) {
-            Some(def) => self.decided_on(&self.registry.shelves[def as usize], request),
-            None => self.decided_on(&Shelf::new(self.alloc), request),
+        match self.oldest(&request) {
+            Some((serial, listing)) => {
+                let rooms = from_ref(listing);
+                let decision = decide(self.alloc, self.defs.as_slice(), rooms, &request, None)?;
+                Ok(in_room(decision, *serial, request.criteria))
+            }
+            None => {
+                let decision = decide(self.alloc, self.defs.as_slice(), &[], &request, None)?;
+                Ok(in_room(decision, 0, request.criteria))
+            }
         }
     }
 
-    // The same over the rooms on a shelf.
-    fn decided_on(&self, shelf: &Shelf, request: Request) -> Result<Led, Memory>
-        requires few { length shelf.now < 2 ^ 32 }
-        requires defs { length self.now.defs < 2 ^ 32 }
-        requires led { LedBy self.now.registry.rooms (length self.now.defs) (decide self.now.defs (listings (hub_of R.room self.now)) request (kept_session (hub_of R.room self.now) request)) shelf.now (decide self.now.defs (map the_listing shelf.now) request None) }
-        ensures { IfOk result (Leads self.now.registry.rooms (length self.now.defs) request.criteria (decide self.now.defs (listings (hub_of R.room self.now)) request (kept_session (hub_of R.room self.now) request))) }
+    // The oldest room of the definition of its name that is open and has its criteria.
+    fn oldest(&self, request: &Request) -> Option<&Shown>
+        requires { Stands R.room R.Holds self.now }
+        ensures { option_copied result ≡ oldest_of R.room self.now.registry.rooms self.now.defs request.now.name request.now.criteria }
     {
-        match decide(
-            self.alloc,
-            self.defs.as_slice(),
-            shelf.listings(),
-            &request,
-            None,
-        )? {
-            Decision::Refuse(code, text) => Ok(Led::Refuse(code, text)),
-            Decision::Make(def) => Ok(Led::Make(def, request.criteria)),
-            Decision::Join(at) => match shelf.serial_at(at) {
-                Some(serial) => Ok(Led::Join(serial)),
-                None => unreachable!(),
-            },
-            Decision::Return(_, _) => unreachable!(),
-        }
+        let def = def_at(self.defs.as_slice(), request.name.as_str())?;
+        self.registry.shelves[def as usize].oldest(def, request.criteria.as_slice())
     }
 
     /// The drawn id for which it is refused, since it is a room's or a session's: a new room uses both, the room's first.
@@ -181,16 +173,15 @@ fn kept_by<R: RoomLike>(room: &R, token: Option<Id>) -> Option<Id>
     room.kept_by(token?)
 }
 
-// A decision about one room, of a number.
-fn in_room(decision: Decision, serial: u64) -> Led
-    requires { is_made decision ≡ false }
-    ensures { result ≡ led_in serial decision }
+// A decision about one room, of a number; a new room is given criteria.
+fn in_room(decision: Decision, serial: u64, criteria: Texts) -> Led
+    ensures { result ≡ led_in serial criteria decision }
 {
     match decision {
         Decision::Refuse(code, text) => Led::Refuse(code, text),
         Decision::Join(_) => Led::Join(serial),
         Decision::Return(_, session) => Led::Return(serial, session),
-        Decision::Make(_) => unreachable!(),
+        Decision::Make(def) => Led::Make(def, criteria),
     }
 }
 

@@ -7,8 +7,8 @@ ghost use Rattle.hub_core.specs.Homes.{has_in};
 ghost use Rattle.hub_core.specs.Looks.{IsLook};
 ghost use Rattle.hub_core.specs.Stood.{AreOrdered, IsStepped, has_id, serial_of};
 
-use crate::look::{Look, Turn};
-use crate::stood::Stood;
+use crate::look::Turn;
+use crate::stood::{Boxed, Stood};
 use lists::Memory;
 use room_like::RoomLike;
 use room_model::{RoomEvent, Texts};
@@ -22,7 +22,7 @@ use steps::Steps;
 /// Rooms in the order of their creation. One is found by its id and by its number in logarithmic time.
 #[derive(Drop)]
 pub struct Rooms<R> {
-    by_serial: BTreeMap<u64, Stood<R>>,
+    by_serial: BTreeMap<u64, Boxed<R>>,
     by_id: BTreeMap<[u8; 9], u64>,
     next: u64,
 }
@@ -57,13 +57,6 @@ impl<R> Rooms<R> {
         ensures { AreOrdered self.now }
     {
         let _next = self.next;
-    }
-
-    /// How many there are.
-    pub fn len(&self) -> usize
-        ensures { result ≡ length self.now }
-    {
-        self.by_serial.len()
     }
 
     /// The number of the room of an id.
@@ -104,7 +97,10 @@ impl<R> Rooms<R> {
         ensures value { option_copied result ≡ find_by serial_of serial self.now }
         ensures ordered { AreOrdered self.now }
     {
-        self.by_serial.get(&serial)
+        match self.by_serial.get(&serial) {
+            Some(boxed) => Some(boxed.get()),
+            None => None,
+        }
     }
 
     /// The room of an id.
@@ -118,19 +114,26 @@ impl<R> Rooms<R> {
         self.get(serial)
     }
 
-    /// The id of the room of a place. It passes over the rooms before it.
-    pub fn nth(&self, n: u32) -> Option<Id>
-        ensures { result ≡ option_map (λ s. s.id) (slice_get self.now n) }
+    /// The room of a place. It passes over the rooms before it.
+    pub fn nth(&self, n: u32) -> Option<&Stood<R>>
+        ensures { option_copied result ≡ slice_get self.now n }
     {
         match self.by_serial.values().nth(n as usize) {
-            Some(stood) => Some(stood.id),
+            Some(boxed) => Some(boxed.get()),
             None => None,
         }
     }
 
     /// Adds a room behind all others, and gives its number. After 2^64 - 1 rooms there is no number left, which is answered
     /// as want of memory.
-    pub fn push(&mut self, id: Id, def: u32, criteria: Texts, room: R) -> Result<u64, Memory>
+    pub fn push(
+        &mut self,
+        alloc: Global,
+        id: Id,
+        def: u32,
+        criteria: Texts,
+        room: R,
+    ) -> Result<u64, Memory>
     where
         R: Drop,
         requires new { find (has_id id) self.old ≡ None }
@@ -141,16 +144,19 @@ impl<R> Rooms<R> {
         let Some(next) = serial.checked_add(1) else {
             return Err(Memory);
         };
+        let boxed = Boxed::new(
+            alloc,
+            Stood {
+                criteria,
+                serial,
+                def,
+                id,
+                room,
+            },
+        )?;
         let key = bytes_of(id);
         self.by_id.insert(key, serial)?;
-        let stood = Stood {
-            serial,
-            id,
-            def,
-            criteria,
-            room,
-        };
-        match self.by_serial.insert(serial, stood) {
+        match self.by_serial.insert(serial, boxed) {
             Ok(_) => {
                 self.next = next;
                 Ok(serial)
@@ -168,8 +174,8 @@ impl<R> Rooms<R> {
         R: Drop,
         ensures { self.new ≡ remove serial_of serial self.old }
     {
-        if let Some(stood) = self.by_serial.remove(&serial) {
-            self.by_id.remove(&bytes_of(stood.id));
+        if let Some(boxed) = self.by_serial.remove(&serial) {
+            self.by_id.remove(&bytes_of(boxed.id()));
         }
     }
 }
@@ -201,13 +207,11 @@ impl<R: RoomLike> Rooms<R> {
         ensures now { IfOk result (λ turn. IfSome (find_by serial_of serial self.new) (λ t. IsLook R.room t turn.now)) }
         ensures cost { IfSome (find_by serial_of serial self.old) (λ s. steps.new ≤ steps.old + R.costs s.room event.now) }
     {
-        let Some(stood) = self.by_serial.get_mut(&serial) else {
+        let Some(boxed) = self.by_serial.get_mut(&serial) else {
             return Err(Memory);
         };
-        let was = Look::of(stood);
-        let outs = stood.room.step(event, steps)?;
-        let now = Look::of(stood);
-        Ok(Turn { outs, was, now })
+        let turn = boxed.step(event, steps)?;
+        Ok(turn)
     }
 }
 

@@ -1,32 +1,38 @@
 //! The rooms of one definition.
-ghost use Rattle.std.specs.Prelude.{◌≡◌, ◌<◌, ◌++◌, ◌∷◌, [], Some, None, length, map, option_map, set, slice_get, IfNone, IfSome, OnOk};
-ghost use Rattle.lists.specs.Rising.{IsAbove, RisesFrom, find, remove};
-ghost use Rattle.hub_core.specs.Lapses.{itself};
+ghost use Rattle.std.specs.Prelude.{◌≡◌, ◌++◌, ◌∷◌, [], map, option_copied, OnOk};
+ghost use Rattle.std.specs.List.{find};
+ghost use Rattle.lists.specs.Rising.{IsAbove, remove};
+ghost use Rattle.hub_model.specs.Decisions.{meets};
 ghost use Rattle.hub_core.specs.Shelves.{number_of, renewed, with_state};
 
 use hub_model::Listing;
-use lists::Memory;
+use lists::{Memory, Text};
+use matchmaker::meets;
 use std::alloc::Global;
+use std::collections::BTreeMap;
 use std::marker::Model;
 
-/// The rooms of one definition as requests see them, in the order of their creation, each with its number.
+/// A room as requests see it, with its number.
+pub type Shown = (u64, Listing);
+
+/// The rooms of one definition as requests see them, in the order of their creation, each with its number. One is found by
+/// its number, changed, and taken out in logarithmic time.
 #[derive(Drop)]
 pub struct Shelf {
-    serials: Vec<u64>,
-    listings: Vec<Listing>,
+    rooms: BTreeMap<u64, Shown>,
 }
 
 impl Model for Shelf {
-    ghost use Rattle.std.specs.Prelude.{◌≡◌, List, length};
+    ghost use Rattle.std.specs.Prelude.{List};
     ghost use Rattle.lists.specs.Rising.{RisesFrom};
-    ghost use Rattle.hub_core.specs.Lapses.{itself};
-    ghost use Rattle.hub_core.specs.Shelves.{Shown, shown};
+    ghost use Rattle.trees.specs.Trees.{entry_values, IsKeyed};
+    ghost use Rattle.hub_core.specs.Shelves.{Shown, number_of};
 
     ghost Value = { List Shown };
 
-    ghost view = { λ s. shown s.serials.items s.listings.items };
+    ghost view = { λ s. entry_values s.rooms.entries };
 
-    ghost invariant = { λ s. (length s.serials.items ≡ length s.listings.items) × RisesFrom itself 0 s.serials.items };
+    ghost invariant = { λ s. IsKeyed number_of s.rooms.entries × RisesFrom number_of 0 (entry_values s.rooms.entries) };
 }
 
 impl Shelf {
@@ -35,23 +41,17 @@ impl Shelf {
         ensures { result ≡ [] }
     {
         Shelf {
-            serials: Vec::new(alloc),
-            listings: Vec::new(alloc),
+            rooms: BTreeMap::new(alloc),
         }
     }
 
-    /// The rooms alone.
-    pub fn listings(&self) -> &[Listing]
-        ensures { result.now ≡ map (λ s. s.1) self.now }
+    /// The oldest room that is open, of this definition, and has these criteria. It passes over those before it.
+    pub fn oldest(&self, def: u32, criteria: &[Text]) -> Option<&Shown>
+        ensures { option_copied result ≡ find (λ s. meets def criteria.now s.1) self.now }
     {
-        self.listings.as_slice()
-    }
-
-    /// The number of the room at a place.
-    pub fn serial_at(&self, at: u32) -> Option<u64>
-        ensures { result ≡ option_map number_of (slice_get self.now at) }
-    {
-        number_at(self.serials.as_slice(), at as usize)
+        self.rooms
+            .values()
+            .find(|shown| meets(def, criteria, &shown.1))
     }
 
     /// Adds a room whose number is above all others.
@@ -59,9 +59,7 @@ impl Shelf {
         requires { IsAbove number_of serial self.old }
         ensures { OnOk result (self.new ≡ self.old ++ (serial, listing) ∷ []) }
     {
-        self.serials.reserve(1)?;
-        self.listings.push(listing)?;
-        self.serials.push(serial).unwrap();
+        self.rooms.insert(serial, (serial, listing))?;
         Ok(())
     }
 
@@ -69,44 +67,24 @@ impl Shelf {
     pub fn renew(&mut self, serial: u64, locked: bool, in_use: u32, max: u32)
         ensures { self.new ≡ map (renewed serial locked in_use max) self.old }
     {
-        if let Some(at) = place_of(self.serials.as_slice(), serial) {
-            renew_at(&mut self.listings, at, locked, in_use, max);
-        }
+        let Some(shown) = self.rooms.get_mut(&serial) else {
+            return;
+        };
+        renew(&mut shown.1, locked, in_use, max);
     }
 
     /// Takes the room of a number out.
     pub fn remove(&mut self, serial: u64)
         ensures { self.new ≡ remove number_of serial self.old }
     {
-        if let Some(at) = place_of(self.serials.as_slice(), serial) {
-            self.serials.remove(at);
-            self.listings.remove(at);
-        }
+        self.rooms.remove(&serial);
     }
 }
 
-// The number at a place.
-fn number_at(serials: &[u64], at: usize) -> Option<u64>
-    ensures { result ≡ slice_get serials.now at }
+// Notes how far a room is taken.
+fn renew(listing: &mut Listing, locked: bool, in_use: u32, max: u32)
+    ensures { listing.new ≡ with_state locked in_use max listing.old }
 {
-    serials.get(at).copied()
-}
-
-// Where a number stands among those that rise.
-fn place_of(serials: &[u64], serial: u64) -> Option<usize>
-    requires { RisesFrom itself 0 serials.now }
-    ensures there { IfSome result (λ at. slice_get serials.now at ≡ Some serial) }
-    ensures none { IfNone result (find itself serial serials.now ≡ None) }
-{
-    serials.binary_search(&serial).ok()
-}
-
-// Notes how far the room at a place is taken.
-fn renew_at(listings: &mut Vec<Listing>, at: usize, locked: bool, in_use: u32, max: u32)
-    requires { at < length listings.old.items }
-    ensures { IfSome (slice_get listings.old.items at) (λ l. listings.new.items ≡ set listings.old.items at (with_state locked in_use max l)) }
-{
-    let listing = &mut listings[at];
     listing.locked = locked;
     listing.in_use = in_use;
     listing.max = max;

@@ -5,3 +5,4 @@ pub mod RoomLives
 pub mod LatestFrames
 pub mod HubLives
 pub mod HubPromises
+pub mod Clients

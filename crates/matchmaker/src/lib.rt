@@ -15,7 +15,7 @@ mod whole;
 pub use decision::decide;
 pub use hub_model::{AskFault, Decision, Listing, Method, Opening, Request};
 pub use id::{id_of, id_text, is_id};
-pub use listing::def_at;
+pub use listing::{def_at, meets};
 pub use opening::read_target;
 pub use reply::{refusal_text, reply_text};
 pub use request::read_request;

@@ -60,7 +60,8 @@ fn is_open(room: &Listing) -> bool
     !room.locked && room.in_use < room.max
 }
 
-fn meets(def: u32, criteria: &[Text], room: &Listing) -> bool
+/// A room is open, of this definition, and has these criteria.
+pub fn meets(def: u32, criteria: &[Text], room: &Listing) -> bool
     ensures { result ≡ meets def criteria.now room.now }
 {
     is_open(room) && room.def == def && are_equal(room.criteria.as_slice(), criteria)

@@ -1,5 +1,7 @@
 -- The value of a room: what its parts come to.
-use Rattle.std.specs.Prelude.{ℕ, Bool, List, [], map}
+use Rattle.std.specs.Prelude.{ℕ, Bool, true, false, List, filter, length, map}
+use Rattle.room_model.specs.declared.event.Stage.{Stage}
+use Rattle.room_model.specs.declared.event.Stage.TheVariants as stage
 use Rattle.room_model.specs.Seats.{Seats}
 use Rattle.room_model.specs.Sessions.{Session}
 use Rattle.room_model.specs.Room.{RoomValue}
@@ -32,3 +34,15 @@ room_with def criteria live shared seats clients = record {
 
 abbrev pub room_of : Parts → RoomValue
 room_of p = room_with p.def p.criteria p.live p.shared p.places p.clients.items
+
+-- a session at this stage has had its full state and has a connection
+abbrev pub is_live : Stage → Bool
+is_live stage.Reserved = false
+is_live stage.Joining = false
+is_live stage.Due = false
+is_live stage.Live = true
+is_live stage.Kept = false
+
+-- how many sessions are live
+abbrev pub live_count : List Session → ℕ
+live_count ss = length (filter (λ (s : Session). is_live s.stage) ss)

@@ -3,8 +3,9 @@ ghost use Rattle.std.specs.Prelude.{◌≡◌, is_some, map};
 ghost use Rattle.room_model.specs.Sessions.{is_connected, session_of};
 ghost use Rattle.room_laws.specs.Placed.{Placed, stage_of};
 ghost use Rattle.room_core.specs.Clients.{IsClientAt};
-ghost use Rattle.room_core.specs.Values.{room_of, session_of_client};
+ghost use Rattle.room_core.specs.Values.{is_live, live_count, room_of, session_of_client};
 
+use crate::client::Client;
 use crate::parts::Parts;
 use room_model::Stage;
 use schema_model::Id;
@@ -44,4 +45,24 @@ pub fn has_connection(stage: Stage) -> bool
     ensures { result ≡ is_connected stage }
 {
     matches!(stage, Stage::Joining | Stage::Due | Stage::Live)
+}
+
+/// How many of these clients are live.
+pub fn live_among(clients: &[Client]) -> usize
+    ensures { result ≡ live_count (map session_of_client clients.now) }
+{
+    let mut count = 0;
+    for client in clients {
+        if is_live(client.stage) {
+            count += 1;
+        }
+    }
+    count
+}
+
+// A session at this stage has had its full state and has a connection.
+fn is_live(stage: Stage) -> bool
+    ensures { result ≡ is_live stage }
+{
+    matches!(stage, Stage::Live)
 }

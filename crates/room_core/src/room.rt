@@ -7,9 +7,9 @@ ghost use Rattle.room_laws.specs.Places.{is_connected_in, may_act, may_happen};
 ghost use Rattle.live_state.specs.Live.{schema_of};
 ghost use Rattle.room_core.specs.Costs.{act_cost, step_cost};
 ghost use Rattle.room_core.specs.Stands.{RoomStands};
-ghost use Rattle.room_core.specs.Values.{room_of};
+ghost use Rattle.room_core.specs.Values.{live_count, room_of};
 
-use crate::clients::has_connection;
+use crate::clients::{has_connection, live_among};
 use crate::frames::{message_frame, raw_frame};
 use crate::parts::Parts;
 use crate::takes::is_moment;
@@ -59,6 +59,14 @@ impl Room {
         ensures { result ≡ stage_of self.now.room.sessions session }
     {
         self.parts.stage_of(session)
+    }
+
+    /// How many of its sessions are live.
+    pub fn live_count(&self) -> u32
+        ensures { result ≡ live_count self.now.room.sessions }
+    {
+        let live = live_among(self.parts.clients.as_slice());
+        u32::try_from(live).unwrap_or(self.max())
     }
 
     /// Whether an event may happen now: then `step` takes it.

@@ -68,53 +68,40 @@ told_next p hub after items i item outs below is gives leads =
 
 -- ---- what may be taken
 
--- a request came, or there is no room yet; and what is left may follow
-pub record Follows (hub : HubValue) (items : List Item) : Type 0 where
+-- what is left may follow
+pub record Follows (items : List Item) : Type 0 where
   pub asked : Bool
   pub once : asks_once asked items ≡ true
-  pub none : asked ≡ false → hub.rooms ≡ []
 
--- before the first event there is no room, and nothing was printed
-pub first_follows : (p : FirstPath) (held : Held) (items : List Item) → held ≡ record { hub = start p; spent = false } → items ≡ p.items → CanPlay p → Follows held.hub items
-first_follows p held items is all plays = rw (is, all) (record { asked = false; once = plays.items; none = λ not_yet. refl })
+-- before the first event nothing was printed
+pub first_follows : (p : FirstPath) (items : List Item) → items ≡ p.items → CanPlay p → Follows items
+first_follows p items all plays = rw (all) (record { asked = false; once = plays.items })
 
 pub first_told : (p : FirstPath) (held : Held) (items : List Item) (now : Option (List ℕ)) → held ≡ record { hub = start p; spent = false } → items ≡ p.items
     → SoFar now now (told p held.hub items) (told p (start p) p.items)
 first_told p held items now is all = rw (is, all) (at_first now (told p (start p) p.items))
 
--- an event that makes nothing leaves no room where there was none
-no_room : (h : HubValue) (e : HubEvent) → makes rules h e ≡ [] → h.rooms ≡ [] → (hub_step rules h e).0.rooms ≡ []
-no_room h e made none = ap (λ rs. filter is_needed (map (λ (d : Dealt). d.room) (map (λ (r : HubRoom). dealt room_step r (deals rules h e r)) rs))) (ap₂ (λ a b. a ++ b) none made)
-
 -- the hub takes the next event
-takes_next : (p : FirstPath) (h : HubValue) (item : Item) (rest : List Item) → CanPlay p → Follows h (item ∷ rest) → may_take h (event_of p item) ≡ true
-takes_next p h (At ms) rest plays f = refl
-takes_next p h (Ask conn) rest plays f =
-    let both = and_parts (not f.asked) (asks_once true rest) f.once in
-    let none : h.rooms ≡ [] = f.none (not_true f.asked both.0) in
-    and_from (nat_lt (length h.rooms) (2 ^ 32 - 1)) (is_id p.room && is_id p.session) (ap (λ (rs : List HubRoom). nat_lt (length rs) (2 ^ 32 - 1)) none) (and_from (is_id p.room) (is_id p.session) plays.room plays.session)
-  where
-    not_true : (b : Bool) → not b ≡ true → b ≡ false
-    not_true true h = absurd cc
-    not_true false h = refl
-takes_next p h (Open conn fresh) rest plays f = (and_parts (is_id fresh) (asks_once f.asked rest) f.once).0
-takes_next p h (Acknowledge conn) rest plays f = refl
-takes_next p h (Put field z) rest plays f = refl
-takes_next p h Tick rest plays f = refl
+takes_next : (p : FirstPath) (item : Item) (rest : List Item) → CanPlay p → Follows (item ∷ rest) → may_take (event_of p item) ≡ true
+takes_next p (At ms) rest plays f = refl
+takes_next p (Ask conn) rest plays f = and_from (is_id p.room) (is_id p.session) plays.room plays.session
+takes_next p (Open conn fresh) rest plays f = (and_parts (is_id fresh) (asks_once f.asked rest) f.once).0
+takes_next p (Acknowledge conn) rest plays f = refl
+takes_next p (Put field z) rest plays f = refl
+takes_next p Tick rest plays f = refl
 
 -- and those behind it may follow
-follows_next : (p : FirstPath) (h : HubValue) (item : Item) (rest : List Item) → Follows h (item ∷ rest) → Follows (hub_step rules h (event_of p item)).0 rest
-follows_next p h (At ms) rest f = record { asked = f.asked; once = f.once; none = λ not_yet. no_room h (event_of p (At ms)) refl (f.none not_yet) }
-follows_next p h (Ask conn) rest f = record { asked = true; once = (and_parts (not f.asked) (asks_once true rest) f.once).1; none = λ not_yet. absurd cc }
-follows_next p h (Open conn fresh) rest f =
-    record { asked = f.asked; once = (and_parts (is_id fresh) (asks_once f.asked rest) f.once).1; none = λ not_yet. no_room h (event_of p (Open conn fresh)) refl (f.none not_yet) }
-follows_next p h (Acknowledge conn) rest f = record { asked = f.asked; once = f.once; none = λ not_yet. no_room h (event_of p (Acknowledge conn)) refl (f.none not_yet) }
-follows_next p h (Put field z) rest f = record { asked = f.asked; once = f.once; none = λ not_yet. no_room h (event_of p (Put field z)) refl (f.none not_yet) }
-follows_next p h Tick rest f = record { asked = f.asked; once = f.once; none = λ not_yet. no_room h (event_of p Tick) refl (f.none not_yet) }
+follows_next : (item : Item) (rest : List Item) → Follows (item ∷ rest) → Follows rest
+follows_next (At ms) rest f = record { asked = f.asked; once = f.once }
+follows_next (Ask conn) rest f = record { asked = true; once = (and_parts (not f.asked) (asks_once true rest) f.once).1 }
+follows_next (Open conn fresh) rest f = record { asked = f.asked; once = (and_parts (is_id fresh) (asks_once f.asked rest) f.once).1 }
+follows_next (Acknowledge conn) rest f = record { asked = f.asked; once = f.once }
+follows_next (Put field z) rest f = record { asked = f.asked; once = f.once }
+follows_next Tick rest f = record { asked = f.asked; once = f.once }
 
 -- what is left, item by item
-follows_at : (h : HubValue) (items : List Item) (i : ℕ) (item : Item) → i < length items → item ≡ get_or items i item → Follows h (drop i items) → Follows h (item ∷ drop (i + 1) items)
-follows_at h items i item below is f = subst (Follows h) (at_next items i item below is) f
+follows_at : (items : List Item) (i : ℕ) (item : Item) → i < length items → item ≡ get_or items i item → Follows (drop i items) → Follows (item ∷ drop (i + 1) items)
+follows_at items i item below is f = subst Follows (at_next items i item below is) f
 
 -- ---- an event of the list
 
@@ -123,14 +110,12 @@ after_event : (p : FirstPath) (h : HubValue) (after : Held) (item : Item) (event
     → after.hub ≡ (hub_step rules h (event_of p item)).0
 after_event p h after item event e leads = ap (λ (x : Held). x.hub) leads ∙ ap (λ x. (hub_step rules h x).0) e
 
-pub takes_on : (p : FirstPath) (h : HubValue) (items : List Item) (i : ℕ) (item : Item) (event : HubEvent) → i < length items → item ≡ get_or items i item → event ≡ event_of p item → CanPlay p → Follows h (drop i items)
-    → may_take h event ≡ true
-takes_on p h items i item event below is e plays f = rw (e) (takes_next p h item (drop (i + 1) items) plays (follows_at h items i item below is f))
+pub takes_on : (p : FirstPath) (items : List Item) (i : ℕ) (item : Item) (event : HubEvent) → i < length items → item ≡ get_or items i item → event ≡ event_of p item → CanPlay p → Follows (drop i items)
+    → may_take event ≡ true
+takes_on p items i item event below is e plays f = rw (e) (takes_next p item (drop (i + 1) items) plays (follows_at items i item below is f))
 
-pub follows_on : (p : FirstPath) (h : HubValue) (after : Held) (items : List Item) (i : ℕ) (item : Item) (event : HubEvent) → i < length items → item ≡ get_or items i item → event ≡ event_of p item
-    → after ≡ record { hub = (hub_step rules h event).0; spent = false } → Follows h (drop i items) → Follows after.hub (drop (i + 1) items)
-follows_on p h after items i item event below is e leads f =
-    subst (λ x. Follows x (drop (i + 1) items)) (sym (after_event p h after item event e leads)) (follows_next p h item (drop (i + 1) items) (follows_at h items i item below is f))
+pub follows_on : (items : List Item) (i : ℕ) (item : Item) → i < length items → item ≡ get_or items i item → Follows (drop i items) → Follows (drop (i + 1) items)
+follows_on items i item below is f = follows_next item (drop (i + 1) items) (follows_at items i item below is f)
 
 pub told_on : (p : FirstPath) (h : HubValue) (after : Held) (items : List Item) (i : ℕ) (item : Item) (event : HubEvent) (outs : List HubOut) → i < length items → item ≡ get_or items i item → event ≡ event_of p item
     → outs ≡ (hub_step rules h event).1 → after ≡ record { hub = (hub_step rules h event).0; spent = false } → told p h (drop i items) ≡ flat_map out_line outs ++ told p after.hub (drop (i + 1) items)

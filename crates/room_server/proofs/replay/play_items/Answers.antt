@@ -6,7 +6,7 @@ use Rattle.room_server.proofs.replay.play_items.Goals as goal
 
 pub step-requires : goal.step-requires
 step-requires g c fresh =
-    takes_on c.args.path.now _ c.as_slice-item-items.result.now _ _ _ c.loop-item-test.true c.item-item.is c.in_ok-event.ensures c.requires.path c.loop-item.invariant.follows
+    takes_on c.args.path.now c.as_slice-item-items.result.now _ _ _ c.loop-item-test.true c.item-item.is c.in_ok-event.ensures c.requires.path c.loop-item.invariant.follows
 
 pub loop-item-init : goal.loop-item-init
 loop-item-init g c =
@@ -15,7 +15,7 @@ loop-item-init g c =
       so_far = first_told path _ _ _ c.in_ok-hub.ensures c.as_slice-item-items.ensures;
       quiet = refl;
       items = c.as_slice-item-items.ensures;
-      follows = first_follows path _ _ c.in_ok-hub.ensures c.as_slice-item-items.ensures c.requires.path;
+      follows = first_follows path _ c.as_slice-item-items.ensures c.requires.path;
       fresh = ap (λ h. h.spent) c.in_ok-hub.ensures;
     }
 
@@ -45,6 +45,6 @@ loop-item-preserved g c =
       so_far = one_further _ _ _ _ _ _ _ kept.so_far next c.in_ok-write_outs.ensures.writes;
       quiet = quiet_ok _ _ _ c.in_ok-write_outs.ensures.cause ∙ kept.quiet;
       items = kept.items;
-      follows = follows_on path _ _ c.as_slice-item-items.result.now _ _ _ c.loop-item-test.true c.item-item.is c.in_ok-event.ensures step.after kept.follows;
+      follows = follows_on c.as_slice-item-items.result.now _ _ c.loop-item-test.true c.item-item.is kept.follows;
       fresh = ap (λ h. h.spent) step.after;
     }

@@ -10,6 +10,6 @@ invariant-loop-item g l =
       so_far : SoFar (g.K.Sink.taken l.fn.sink) (g.K.Sink.taken l.sink) (told l.path l.hub.hub rest) (told l.path (start l.path) l.path.items);
       quiet : g.K.Sink.faults l.sink ≡ g.K.Sink.faults l.fn.sink;
       items : l.item-items ≡ l.path.items;
-      follows : Follows l.hub.hub rest;
+      follows : Follows rest;
       fresh : l.hub.spent ≡ false;
     }

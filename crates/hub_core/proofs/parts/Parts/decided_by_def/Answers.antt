@@ -1,31 +1,25 @@
-use Rattle.std.proofs.Common.{◌≡◌, ℕ, ◌≤◌, ◌<◌, ◌^◌, length, Some, None, ap, arith}
-use Rattle.hub_core.proofs.LedLaws.{def_is, def_within, leads_by_def, leads_by_none, shelf_at, shelf_within}
+use Rattle.std.proofs.Common.{◌∙◌, [], ap, ap₂, sym, subst, length, None}
+use Rattle.hub_model.specs.Decisions.{decide}
+use Rattle.hub_model.specs.HubStep.{kept_session}
+use Rattle.hub_model.specs.HubValues.{listings}
+use Rattle.hub_core.specs.Hubs.{hub_of}
+use Rattle.hub_core.specs.Led.{Leads, led_in}
+use Rattle.hub_core.proofs.LedLaws.{leads_none, leads_some}
 use Rattle.hub_core.proofs.parts.Parts.decided_by_def.Goals as goal
 
-pub decided_on-requires-clause-few : goal.decided_on-requires-clause-few
-decided_on-requires-clause-few g c =
-    let old = c.args.self.now in
-    let def = def_is c.as_slice.result.now old.defs c.args.request.name c.as_str.result.now (Some c.in-Some.def) c.in-Some.ensures c.as_slice.ensures c.as_str.ensures in
-    let is = shelf_at g.R.RoomLike.room g.R.RoomLike.Holds old c.in-Some.def c.index.result.now c.requires.stands.order (def_within old.defs c.args.request.name c.in-Some.def def) c.index.ensures in
-    let less = shelf_within g.R.RoomLike.room c.in-Some.def old.registry.rooms in
-    few_of (length c.index.result.now) _ _ (ap length is) less c.requires.few
-  where
-    few_of : (a b n : ℕ) → a ≡ b → b ≤ n → n < 2 ^ 32 → a < 2 ^ 32
-    few_of a b n is less few = omega (arith, is, less, few)
-
-pub decided_on-requires-clause-led : goal.decided_on-requires-clause-led
-decided_on-requires-clause-led g c =
-    let old = c.args.self.now in
-    let def = def_is c.as_slice.result.now old.defs c.args.request.name c.as_str.result.now (Some c.in-Some.def) c.in-Some.ensures c.as_slice.ensures c.as_str.ensures in
-    leads_by_def g.R.RoomLike.room old c.args.request c.in-Some.def c.index.result.now c.requires.by_def def
-    (shelf_at g.R.RoomLike.room g.R.RoomLike.Holds old c.in-Some.def c.index.result.now c.requires.stands.order (def_within old.defs c.args.request.name c.in-Some.def def) c.index.ensures)
-
-pub decided_on-requires-in-None-clause-led : goal.decided_on-requires-in-None-clause-led
-decided_on-requires-in-None-clause-led g c =
-    leads_by_none g.R.RoomLike.room c.args.self.now c.args.request _ c.requires.by_def (def_is c.as_slice.result.now c.args.self.now.defs c.args.request.name c.as_str.result.now None c.in-None.ensures c.as_slice.ensures c.as_str.ensures)
-
 pub returns-in-Some : goal.returns-in-Some
-returns-in-Some g c = c.decided_on.ensures
+returns-in-Some g c =
+    let old = c.args.self.now in
+    let q = c.args.request in
+    let s = c.in-Some.field-0.now in
+    subst (Leads old.registry.rooms (length old.defs) q.criteria (decide old.defs (listings (hub_of g.R.RoomLike.room old)) q (kept_session (hub_of g.R.RoomLike.room old) q)))
+    (sym (c.in_room.ensures ∙ ap (led_in s.0 q.criteria) (c.in_ok-decision-in-Some.ensures.value ∙ ap₂ (λ ds ls. decide ds ls q None) c.as_slice.ensures c.one-rooms.ensures)))
+    (leads_some g.R.RoomLike.room old q c.requires.by_def s (sym c.in-Some.ensures))
 
-pub returns-in-None : goal.returns-in-None
-returns-in-None g c = c.decided_on-in-None-2.ensures
+pub returns : goal.returns
+returns g c =
+    let old = c.args.self.now in
+    let q = c.args.request in
+    subst (Leads old.registry.rooms (length old.defs) q.criteria (decide old.defs (listings (hub_of g.R.RoomLike.room old)) q (kept_session (hub_of g.R.RoomLike.room old) q)))
+    (sym (c.in_room-in-None.ensures ∙ ap (led_in 0 q.criteria) (c.in_ok-decision-in-None.ensures.value ∙ ap (λ ds. decide ds [] q None) c.as_slice-in-None.ensures)))
+    (leads_none g.R.RoomLike.room old q c.requires.by_def (sym c.in-None.ensures))

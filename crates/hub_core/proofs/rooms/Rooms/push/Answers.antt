@@ -14,7 +14,7 @@ abbrev made : (g : Over) (c : goal.Joined-insert-2 g) → Stood g.row.R.Denot
 made g c = record { serial = c.self.inside.next; id = c.args.id; def = c.args.def; criteria = c.args.criteria; room = c.args.room }
 
 with : (g : Over) (c : goal.Joined-insert-2 g) → entry_values c.insert-2.new.self.entries ≡ entry_values c.self.inside.by_serial.entries ++ made g c ∷ []
-with g c = ap entry_values c.in-Ok.ensures.entries ∙ values-insert serial_of (made g c) c.self.inside.by_serial.entries c.self.invariant.keyed ∙ put-last serial_of (made g c) (entry_values c.self.inside.by_serial.entries) c.self.invariant.below
+with g c = ap entry_values (rw c.in_ok-boxed.ensures at c.in-Ok.ensures.entries) ∙ values-insert serial_of (made g c) c.self.inside.by_serial.entries c.self.invariant.keyed ∙ put-last serial_of (made g c) (entry_values c.self.inside.by_serial.entries) c.self.invariant.below
 
 pub invariant_of-self-in-Ok : goal.invariant_of-self-in-Ok
 invariant_of-self-in-Ok g c =
@@ -24,7 +24,7 @@ invariant_of-self-in-Ok g c =
     let step : Renamed c.args.id (Some c.self.inside.next) c.self.inside.by_id.entries c.insert.new.self.entries = λ q. (rw c.bytes_of-key.ensures at c.in_ok-insert.ensures.updates).0 q in
     let more : c.self.inside.next < c.in-Some.next = search rules in
     record {
-      keyed = rw c.in-Ok.ensures.entries (IsKeyed-insert serial_of (made g c) es c.self.invariant.keyed);
+      keyed = rw (rw c.in_ok-boxed.ensures at c.in-Ok.ensures.entries) (IsKeyed-insert serial_of (made g c) es c.self.invariant.keyed);
       rises = rw (with g c) (RisesFrom-push serial_of 0 ss (made g c) c.self.invariant.rises c.self.invariant.below zero-le);
       below = rw (with g c) (IsAbove-append serial_of c.in-Some.next ss (made g c ∷ []) (IsAbove-higher serial_of c.self.inside.next c.in-Some.next ss c.self.invariant.below (omega (arith, more))) (more, tt));
       alone = rw (with g c) (AreAlone-last (made g c) ss new c.self.invariant.alone);
