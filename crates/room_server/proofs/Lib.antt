@@ -1,4 +1,9 @@
 pub mod WriteLaws
 pub mod PlayLaws
+pub mod LineLengths
+pub mod PlayedLaws
+pub mod LoadLaws
 pub mod EndingLaws
-pub mod PathPromises
+pub mod TaskLaws
+pub mod ViewLaws
+pub mod SummaryLaws

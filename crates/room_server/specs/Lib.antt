@@ -1,6 +1,10 @@
 pub mod Words
+pub mod Turns
+pub mod Frames
+pub mod Views
+pub mod Seen
+pub mod Summaries
 pub mod Answers
 pub mod Promised
 pub mod Endings
 pub mod Plays
-pub mod Turns

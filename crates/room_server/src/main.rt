@@ -2,14 +2,19 @@
 #![tactic(auto)]
 
 mod ending;
-mod event;
+mod frame_words;
+#[cfg(test)]
+mod games;
+mod make;
 mod output;
+mod reading;
 mod replay;
 mod run;
-mod schema;
+mod summary;
 mod task;
 #[cfg(test)]
 mod tests;
+mod view;
 
 use ending::Ending;
 use lists::{Memory, Seq, Text};

@@ -3,25 +3,28 @@ ghost use Rattle.std.specs.Prelude.{◌≡◌, ◌⊎◌, ◌≤◌, ◌+◌, �
 ghost use Rattle.outside.specs.Faults.{Rose};
 ghost use Rattle.outside.specs.Reads.{Reads};
 ghost use Rattle.outside.specs.Streams.{Takes, TakesFront};
-ghost use Rattle.text_model.specs.Paths.{Path, IsTextOf, first_path};
-ghost use Rattle.room_server.specs.Answers.{output_for};
-ghost use Rattle.room_server.specs.Endings.{status_of, IsReplayed, IsRefused, IsNoSchedule, IsQuiet, IsEnded};
+ghost use Rattle.text_model.specs.declared.schedule.Schedule.{Schedule};
+ghost use Rattle.text_model.specs.Schedules.{IsScheduleText};
+ghost use Rattle.room_server.specs.Answers.{answer_for};
+ghost use Rattle.room_server.specs.Endings.{status_of, IsAnswered, IsDone, IsEnded, IsQuiet, IsRefused};
 ghost use Rattle.room_server.specs.Promised.{KeepsTaken};
 ghost use Rattle.room_server.specs.Words.{task_of, usage_line};
 ghost use Rattle.room_server.specs.declared.ending.Ending.TheVariants as ending;
-ghost use Rattle.room_server.specs.declared.task.Task.TheVariants.{Replay};
+ghost use Rattle.room_server.specs.declared.task.Task.{Task};
+ghost use Rattle.room_server.specs.declared.task.Task.TheVariants.{Make, Replay};
 
 use crate::ending::Ending;
+use crate::make::make;
 use crate::output::write_usage;
-use crate::replay::replay;
+use crate::reading::answer_source;
 use crate::task::{Task, read_words};
 use outside::{Clock, Failed, Ids, Sink, Source, Wire};
 use room_model::Words;
 use std::alloc::Global;
 
 /// Does what the words behind the program's name call for, and answers the status of the process:
-/// 0 all was read and written, 2 the words are no command's, 3 the text isn't of its form, 4 the source
-/// failed, 5 the sink failed, 7 want of memory.
+/// 0 all was read and written, 2 the words are no command's, 3 the text isn't of its form or a frame of it is refused, 4 the
+/// source failed, 5 the sink failed, 7 want of memory.
 pub fn run<S: Source, K: Sink, W: Wire, C: Clock, I: Ids>(
     alloc: Global,
     words: &Words,
@@ -33,18 +36,19 @@ pub fn run<S: Source, K: Sink, W: Wire, C: Clock, I: Ids>(
 ) -> u8
     ensures status { Contains (0 ∷ 2 ∷ 3 ∷ 4 ∷ 5 ∷ 7 ∷ []) result }
 
-    // 0: the source was read to its end, its bytes are the text of a schedule, the sink took exactly what is printed of
-    // it, and of its events, after every prefix of them: each live client's frames decode to exactly what it may see,
-    // what a life is sent is what the schema and its record are sent, and no room passes its places.
-    ensures done { result ≡ 0 → (task_of words.now ≡ Some Replay)
-        × IsReplayed (S.left source.old) (S.left source.new) (K.taken sink.old) (K.taken sink.new) }
+    // 0: for `replay`, the source was read to its end, its bytes are the text of a schedule, the sink took exactly what is
+    // printed of it, and of its events, after every prefix of them: each live client's frames decode to exactly what it may
+    // see, what a life is sent is what the schema and its record are sent, and no room passes its places. For `view`, the
+    // bytes are what a replay prints, and the sink took exactly the rows of the connection's client. For `make`, the sink
+    // took exactly the summary of the made schedule's run.
+    ensures done { result ≡ 0 → IsDone (task_of words.now) (S.left source.old) (S.left source.new) (K.taken sink.old) (K.taken sink.new) }
 
     // 2: the words are no command's, and the sink took exactly the usage line.
     ensures usage { result ≡ 2 → (task_of words.now ≡ None) × Takes (K.taken sink.old) (K.taken sink.new) usage_line }
 
-    // 3: the text is too long or has a fault, and the sink took exactly the line of the first fault.
-    ensures refused { result ≡ 3 → (task_of words.now ≡ Some Replay)
-        × IsRefused (S.left source.old) (S.left source.new) (K.taken sink.old) (K.taken sink.new) }
+    // 3: the words are those of a command that reads a text, which is too long or has a fault, or one of its frames is
+    // refused; and the sink took exactly the line of the first one.
+    ensures refused { result ≡ 3 → IsRefused (task_of words.now) (S.left source.old) (S.left source.new) (K.taken sink.old) (K.taken sink.new) }
 
     // 4: the source's count of faults rose in this call, and the sink took nothing.
     ensures read_cause { result ≡ 4 → Rose (S.faults source.old) (S.faults source.new) × (K.taken sink.new ≡ K.taken sink.old) }
@@ -54,21 +58,24 @@ pub fn run<S: Source, K: Sink, W: Wire, C: Clock, I: Ids>(
 
     // Whatever the status is, the sink took a front of what the words and the text call for.
     ensures front { (text : List ℕ) × IfSome (S.left source.old) (λ all. all ≡ text)
-        × TakesFront (K.taken sink.old) (K.taken sink.new) (output_for (task_of words.now) text) }
+        × TakesFront (K.taken sink.old) (K.taken sink.new) (answer_for (task_of words.now) text).output }
 
     // Whatever the status is, the same three promises hold of the events whose outputs the sink took whole.
-    ensures promises { task_of words.now ≡ Some Replay → IfSome (S.left source.old) (λ text. (parts : Path) → IsTextOf text parts
-        → KeepsTaken (K.taken sink.old) (K.taken sink.new) (first_path parts)) }
+    ensures promises { task_of words.now ≡ Some Replay → IfSome (S.left source.old) (λ text. (s : Schedule) → length text ≤ 2 ^ 24 → IsScheduleText text s
+        → KeepsTaken (K.taken sink.old) (K.taken sink.new) s) }
 
-    // Where no count rose, words that are no command's get 2; and where memory didn't run out either, a text decides the status.
+    // Where no count rose, words that are no command's get 2; and where memory didn't run out either, the words and the text
+    // decide the status.
     ensures usage_always { task_of words.now ≡ None → (Rose (K.faults sink.old) (K.faults sink.new) → ⊥) → result ≡ 2 }
-    ensures done_always { task_of words.now ≡ Some Replay → IfSome (S.left source.old) (λ text. (parts : Path) → IsTextOf text parts → length text ≤ 2 ^ 24
+    ensures done_always { (task : Task) → task_of words.now ≡ Some task → IfSome (S.left source.old) (λ text. IsAnswered task text
         → IsQuiet (S.faults source.old) (S.faults source.new) (K.faults sink.old) (K.faults sink.new) → (result ≡ 0) ⊎ (result ≡ 7)) }
-    ensures refused_always { task_of words.now ≡ Some Replay → IfSome (S.left source.old) (λ text. IsNoSchedule text
+    ensures refused_always { (task : Task) → task_of words.now ≡ Some task → IfSome (S.left source.old) (λ text. (IsAnswered task text → ⊥)
         → IsQuiet (S.faults source.old) (S.faults source.new) (K.faults sink.old) (K.faults sink.new) → (result ≡ 3) ⊎ (result ≡ 7)) }
+    ensures made_always { (seed rounds : ℕ) → task_of words.now ≡ Some (Make seed rounds) → (Rose (K.faults sink.old) (K.faults sink.new) → ⊥) → (result ≡ 0) ⊎ (result ≡ 7) }
 
-    // Nothing is read for words that are no command's, and of a text at most 16 MiB and one byte.
+    // Nothing is read for words that are no command's and for `make`, and of a text at most 16 MiB and one byte.
     ensures unread { task_of words.now ≡ None → source.new ≡ source.old }
+    ensures unread_made { (seed rounds : ℕ) → task_of words.now ≡ Some (Make seed rounds) → source.new ≡ source.old }
     ensures bound { (bytes : List ℕ) × (length bytes ≤ 2 ^ 24 + 1) × Reads (S.left source.old) (S.left source.new) bytes }
 
     // No count of faults falls, and under any status but 4 no read failed and under any but 5 no write: the count is as it was.
@@ -90,6 +97,7 @@ fn answer<S: Source, K: Sink>(alloc: Global, words: &Words, source: &mut S, sink
     ensures ends { IsEnded (task_of words.now) (S.left source.old) (S.left source.new) (K.taken sink.old) (K.taken sink.new) result }
     ensures usage { task_of words.now ≡ None → (result ≡ ending.Usage) ⊎ (result ≡ ending.WriteFailed) }
     ensures unread { task_of words.now ≡ None → source.new ≡ source.old }
+    ensures unread_made { (seed rounds : ℕ) → task_of words.now ≡ Some (Make seed rounds) → source.new ≡ source.old }
     ensures bound { (bytes : List ℕ) × (length bytes ≤ 2 ^ 24 + 1) × Reads (S.left source.old) (S.left source.new) bytes }
     ensures read_later { S.faults source.old ≤ S.faults source.new }
     ensures read_cause { result ≡ ending.ReadFailed → Rose (S.faults source.old) (S.faults source.new) }
@@ -99,8 +107,8 @@ fn answer<S: Source, K: Sink>(alloc: Global, words: &Words, source: &mut S, sink
     ensures write_quiet { (result ≡ ending.WriteFailed → ⊥) → K.faults sink.new ≡ K.faults sink.old }
 {
     match read_words(words) {
-        Some(Task::Replay) => replay(alloc, source, sink),
-        Some(Task::Serve { .. } | Task::View { .. } | Task::Make { .. }) => unreachable!(),
+        Some(Task::Make { seed, rounds }) => make(alloc, seed, rounds, sink),
+        Some(task) => answer_source(alloc, task, source, sink),
         None => match write_usage(sink) {
             Ok(()) => Ending::Usage,
             Err(Failed) => Ending::WriteFailed,

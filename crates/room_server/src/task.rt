@@ -1,8 +1,13 @@
 //! The commands, by the words behind the program's name.
-ghost use Rattle.std.specs.Prelude.{◌≡◌};
-ghost use Rattle.room_server.specs.Words.{task_of};
+ghost use Rattle.std.specs.Prelude.{◌≡◌, IfSome};
+ghost use Rattle.std.specs.Option.{option_map};
+ghost use Rattle.text_model.specs.Lines.{both};
+ghost use Rattle.room_server.specs.Words.{IsWithin, number_of, rounds_of, task_of};
+ghost use Rattle.room_server.specs.declared.task.Task.TheVariants as task;
 
+use load_maker::MOST_ROUNDS;
 use room_model::Words;
+use schema_reader::decimal::{read_below, read_decimal};
 
 /// What the program is to do.
 #[derive(Clone, Copy, Debug, PartialEq, Eq)]
@@ -17,12 +22,35 @@ pub enum Task {
     Make { seed: u64, rounds: u32 },
 }
 
-/// The command of the words, or `None` where they are no command's. Only `replay` is built so far.
+/// The command of the words, or `None` where they are no command's. `serve` isn't built yet, so its words are none's.
 pub fn read_words(words: &Words) -> Option<Task>
-    ensures { result ≡ task_of words.now }
+    ensures task { result ≡ task_of words.now }
+    ensures within { IfSome result IsWithin }
 {
     match words.as_slice() {
         [word] if word.as_str() == "replay" => Some(Task::Replay),
+        [word, conn] if word.as_str() == "view" => read_view(conn.as_slice()),
+        [word, seed, rounds] if word.as_str() == "make" => {
+            read_make(seed.as_slice(), rounds.as_slice())
+        }
         _ => None,
     }
+}
+
+// `view`, by the word behind it.
+fn read_view(conn: &[u8]) -> Option<Task>
+    ensures { result ≡ option_map task.View (number_of conn.now) }
+{
+    let conn = read_decimal(conn)?;
+    Some(Task::View { conn })
+}
+
+// `make`, by the words behind it.
+fn read_make(seed: &[u8], rounds: &[u8]) -> Option<Task>
+    ensures task { result ≡ both task.Make (number_of seed.now) (rounds_of rounds.now) }
+    ensures within { IfSome result IsWithin }
+{
+    let seed = read_decimal(seed)?;
+    let rounds = read_below(rounds, u64::from(MOST_ROUNDS) + 1)? as u32;
+    Some(Task::Make { seed, rounds })
 }

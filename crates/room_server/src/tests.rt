@@ -1,3 +1,4 @@
+use crate::games::{BOARD, DUEL, FULL, HANDS, RETURNS};
 use crate::run::run;
 use lists::{Memory, Seq, Text};
 use outside::{ListClock, ListIds, MemSink, MemSource, MemWire};
@@ -118,19 +119,66 @@ fn gives_the_first_frames(rt: HostRuntime) -> Result<(), Fail> {
     Ok(())
 }
 
+// The first line that can't stand where it stands, with the word of its part.
 #[test]
-fn names_the_first_line_of_another_form(rt: HostRuntime) -> Result<(), Fail> {
+fn names_the_first_fault(rt: HostRuntime) -> Result<(), Fail> {
     let alloc = rt.alloc();
-    let rows: [(&[&str], &str); 11] = [
-        // A field of another kind.
+    let rows: [(&[&str], &str); 32] = [
+        (&[""], "line 1 end\n"),
+        (&["\n"], "line 1 schema\n"),
+        (&["class State\0\n"], "line 1 schema\n"),
+        (&["class State\r\n"], "line 1 schema\n"),
+        (&["class  State\n"], "line 1 schema\n"),
+        (&["class State \n"], "line 1 schema\n"),
+        (&["class State"], "line 1 schema\n"),
         (
-            &["class State\nfield x number\nfield name string\nroot State\n"],
-            "line 3 unbuilt\n",
+            &["class State\nfield x number\nroot State\n"],
+            "line 4 end\n",
+        ),
+        (
+            &["class State\nfield x float32\nroot State\n"],
+            "line 2 schema\n",
+        ),
+        (
+            &["class State\nfield x Card\nroot State\n"],
+            "line 2 schema\n",
+        ),
+        // No line of a root comes.
+        (&["class State\nfield x number\n"], "line 3 end\n"),
+        (
+            &["class State\nroot State\nprocess proc0001\n"],
+            "line 3 process\n",
+        ),
+        (
+            &["class State\nroot State\nprocess proc00001"],
+            "line 3 process\n",
+        ),
+        (
+            &["class State\nroot State\nprocess proc00001\nevents\n"],
+            "line 4 room\n",
+        ),
+        (
+            &[
+                "class State\nroot State\nprocess proc00001\nroom duel max 65 seat 1 patch 1 keep 0\n",
+            ],
+            "line 4 room\n",
+        ),
+        (
+            &[
+                "class State\nroot State\nprocess proc00001\nroom duel max 1 seat 1 patch 1 keep 0\nroom duel max 1 seat 1 patch 1 keep 0\n",
+            ],
+            "line 5 room\n",
+        ),
+        (
+            &[
+                "class State\nroot State\nprocess proc00001\nroom duel max 1 seat 1 patch 1 keep 0\ntick room00001\n",
+            ],
+            "line 5 event\n",
         ),
         (&[HEAD, ASK, OPEN, ACKNOWLEDGE, PUT, TICK], "line 13 end\n"),
         (
             &[HEAD, ASK, OPEN, ACKNOWLEDGE, PUT, TICK, "end"],
-            "line 13 unbuilt\n",
+            "line 13 event\n",
         ),
         (
             &[HEAD, ASK, OPEN, ACKNOWLEDGE, PUT, TICK, "end\n", TICK],
@@ -140,17 +188,37 @@ fn names_the_first_line_of_another_form(rt: HostRuntime) -> Result<(), Fail> {
             &[HEAD, ASK, OPEN, ACKNOWLEDGE, PUT, TICK, "end\nx"],
             "line 14 end\n",
         ),
-        (&[""], "line 1 end\n"),
-        (&["\n"], "line 1 unbuilt\n"),
-        (&["class State\0\n"], "line 1 unbuilt\n"),
+        (&[HEAD, "tick room00001\r\nend\n"], "line 8 event\n"),
+        (&[HEAD, "tick  room00001\nend\n"], "line 8 event\n"),
         (
-            &[HEAD, "at 18446744073709551615\nat 18446744073709551616\n"],
-            "line 9 unbuilt\n",
+            &[
+                HEAD,
+                "at 18446744073709551615\nat 18446744073709551616\nend\n",
+            ],
+            "line 9 event\n",
         ),
-        (&[HEAD, ASK, "at 1\n", OPEN], "line 9 unbuilt\n"),
+        (&[HEAD, "at 07\nend\n"], "line 8 event\n"),
+        (&[HEAD, "frame 2 0A\nend\n"], "line 8 event\n"),
         (
-            &[HEAD, ASK, OPEN, ACKNOWLEDGE, "act room00001 put 0 0 5.5\n"],
-            "line 11 unbuilt\n",
+            &[HEAD, "act room00001 put 0 0 5.5\nend\n"],
+            "line 8 event\n",
+        ),
+        (
+            &[HEAD, "act room00001 put 0 256 5\nend\n"],
+            "line 8 event\n",
+        ),
+        (
+            &[HEAD, "act room00001 put 4294967296 0 5\nend\n"],
+            "line 8 event\n",
+        ),
+        (
+            &[HEAD, "act room00001 put 0 0 '%41\nend\n"],
+            "line 8 event\n",
+        ),
+        (&[HEAD, "open 2 a%2D token0001\nend\n"], "line 8 event\n"),
+        (
+            &[HEAD, "act room00001 kick sess00001 3999\nend\n"],
+            "line 8 event\n",
         ),
     ];
     for (text, output) in rows {
@@ -160,7 +228,170 @@ fn names_the_first_line_of_another_form(rt: HostRuntime) -> Result<(), Fail> {
         );
     }
     let bytes = Vec::from_slice(alloc, b"class \xff\xfe\n")?;
-    assert!(rt; replays(alloc, bytes, 3, b"line 1 unbuilt\n")?);
+    assert!(rt; replays(alloc, bytes, 3, b"line 1 schema\n")?);
+    Ok(())
+}
+
+// Whether a command with words gives a status and writes this of a text.
+fn answers(
+    alloc: Global,
+    words: &[&str],
+    text: Vec<u8>,
+    status: u8,
+    output: &[u8],
+) -> Result<bool, Memory> {
+    let mut source = MemSource::new(text, Vec::new(alloc));
+    let mut sink = MemSink::new(alloc, Vec::new(alloc));
+    let given = status_of(alloc, words, &mut source, &mut sink)?;
+    Ok(given == status && sink.taken() == output)
+}
+
+#[test]
+fn plays_the_examples(rt: HostRuntime) -> Result<(), Fail> {
+    let alloc = rt.alloc();
+    for [schedule, output] in [DUEL, HANDS, FULL, RETURNS, BOARD] {
+        let text = joined(alloc, &[schedule])?;
+        assert!(rt; replays(alloc, text, 0, output.as_bytes())?, "{output}");
+    }
+    Ok(())
+}
+
+#[test]
+fn views_what_each_client_sees(rt: HostRuntime) -> Result<(), Fail> {
+    let alloc = rt.alloc();
+    let rows = [
+        (
+            "11",
+            "struct 0 0 0=#1\nmap 1 0.0 0:'a=#2 1:'b=#3\nstruct 2 1 0='ada 1=12\nstruct 3 1 0='bob\nend\n",
+        ),
+        (
+            "12",
+            "struct 0 0 0=#1\nmap 1 0.0 0:'a=#2 1:'b=#3\nstruct 2 1 0='ada\nstruct 3 1 0='bob 1=7\nend\n",
+        ),
+        // Nobody's connection has the root alone.
+        ("9", "struct 0 0\nend\n"),
+    ];
+    for (conn, output) in rows {
+        let [_, printed] = HANDS;
+        let text = joined(alloc, &[printed])?;
+        assert!(rt;
+            answers(alloc, &["view", conn], text, 0, output.as_bytes())?,
+            "{conn}"
+        );
+    }
+    Ok(())
+}
+
+const PRINTED: &str = "class State\nfield x number\nroot State\n";
+
+#[test]
+fn tells_the_frame_that_a_client_refuses(rt: HostRuntime) -> Result<(), Fail> {
+    let alloc = rt.alloc();
+    let rows: [(&[&str], u8, &str); 23] = [
+        (
+            &[PRINTED, "send 9 0e8005\nend\n"],
+            0,
+            "struct 0 0 0=5\nend\n",
+        ),
+        (&[PRINTED, "send 9 -\nend\n"], 3, "line 4 frame empty\n"),
+        (
+            &[PRINTED, "send 9 09\nend\n"],
+            3,
+            "line 4 frame unknown-code 9\n",
+        ),
+        (&[PRINTED, "send 9 0a\nend\n"], 3, "line 4 frame bad 1\n"),
+        (
+            &[PRINTED, "send 9 0f\nend\n"],
+            3,
+            "line 4 frame before-full\n",
+        ),
+        (
+            &[PRINTED, "send 9 0e\nclose 9 4000\nsend 9 0f\nend\n"],
+            3,
+            "line 6 frame closed\n",
+        ),
+        (&[PRINTED, "close 9 4000\nend\n"], 0, "struct 0 0\nend\n"),
+        (
+            &[PRINTED, "send 9 0c\nsend 9 0f\nend\n"],
+            3,
+            "line 5 frame closed\n",
+        ),
+        (
+            &[PRINTED, "send 9 0e80\nend\n"],
+            3,
+            "line 4 frame short 1\n",
+        ),
+        (
+            &[PRINTED, "send 9 0e80ca00000000\nend\n"],
+            3,
+            "line 4 frame fractional 1\n",
+        ),
+        (
+            &[PRINTED, "send 9 0e80ceffffffff\nend\n"],
+            3,
+            "line 4 frame too-wide 1\n",
+        ),
+        (
+            &[PRINTED, "send 9 0e80c0\nend\n"],
+            3,
+            "line 4 frame bad-form 1\n",
+        ),
+        (
+            &["class State\nfield x string\nroot State\nsend 9 0e80a1ff\nend\n"],
+            3,
+            "line 4 frame bad-text 1\n",
+        ),
+        (
+            &[PRINTED, "send 9 0eff05\nend\n"],
+            3,
+            "line 4 frame unknown-ref 1\n",
+        ),
+        (
+            &[PRINTED, "send 9 0e8105\nend\n"],
+            3,
+            "line 4 frame unknown-field 0\n",
+        ),
+        (
+            &["class State\nfield c State\nroot State\nsend 9 0e8001d509\nend\n"],
+            3,
+            "line 4 frame unknown-type 3\n",
+        ),
+        (
+            &["class State\nfield m map number\nroot State\nsend 9 0e8001ff0105\nend\n"],
+            3,
+            "line 4 frame unknown-op 4 5\n",
+        ),
+        // The frames of another connection aren't looked at.
+        (&[PRINTED, "send 8 -\nend\n"], 0, "struct 0 0\nend\n"),
+        // A line that is no output comes before any frame.
+        (
+            &[PRINTED, "send 9 -\nsent 9 0e\nend\n"],
+            3,
+            "line 5 output\n",
+        ),
+        (&[PRINTED, "send 9 0e"], 3, "line 4 output\n"),
+        (&[PRINTED, "send 9 0e\n"], 3, "line 5 end\n"),
+        (&["class State\n"], 3, "line 2 end\n"),
+        (&["root State\n"], 3, "line 1 schema\n"),
+    ];
+    for (text, status, output) in rows {
+        let text = joined(alloc, text)?;
+        assert!(rt;
+            answers(alloc, &["view", "9"], text, status, output.as_bytes())?,
+            "{output}"
+        );
+    }
+    let text = vec![in alloc; b'\n'; (1 << 24) + 1]?;
+    assert!(rt; answers(alloc, &["view", "9"], text, 3, b"line 0 long\n")?);
+    Ok(())
+}
+
+#[test]
+fn makes_a_load(rt: HostRuntime) -> Result<(), Fail> {
+    let alloc = rt.alloc();
+    let text = Vec::from_slice(alloc, b"not looked at")?;
+    let output = "events 909\nticks 0\nlive 0\nrefused 0\nsends 8\nbytes 144\nend\n";
+    assert!(rt; answers(alloc, &["make", "1", "0"], text, 0, output.as_bytes())?);
     Ok(())
 }
 
@@ -177,7 +408,7 @@ fn takes_long_texts(rt: HostRuntime) -> Result<(), Fail> {
     let text = vec![in alloc; b'\n'; (1 << 24) + 1]?;
     assert!(rt; replays(alloc, text, 3, b"line 0 long\n")?);
     let text = vec![in alloc; b'\n'; 1 << 24]?;
-    assert!(rt; replays(alloc, text, 3, b"line 1 unbuilt\n")?);
+    assert!(rt; replays(alloc, text, 3, b"line 1 schema\n")?);
     Ok(())
 }
 
@@ -213,14 +444,22 @@ fn tells_what_failed(rt: HostRuntime) -> Result<(), Fail> {
 #[test]
 fn tells_how_it_is_used(rt: HostRuntime) -> Result<(), Fail> {
     let alloc = rt.alloc();
-    let rows: [&[&str]; 7] = [
+    let rows: [&[&str]; 15] = [
         &[],
         &[""],
         &["replay", "now"],
         &["Replay"],
         &["serve", "0", "1"],
-        &["view", "2"],
-        &["make", "1", "600"],
+        &["view"],
+        &["view", "02"],
+        &["view", "-1"],
+        &["view", "18446744073709551616"],
+        &["view", "2", "3"],
+        &["make", "1"],
+        &["make", "1", "10001"],
+        &["make", "18446744073709551616", "1"],
+        &["make", "1", "+1"],
+        &["make", "1", "1", "1"],
     ];
     for words in rows {
         let mut source = MemSource::new(Vec::new(alloc), Vec::new(alloc));

@@ -1,120 +1,96 @@
--- Lines of other numbers of words than a form has.
-use Rattle.std.proofs.Common.{◌≡◌, ◌∙◌, ℕ, Bool, true, false, cond, ◌&&◌, List, [], ◌∷◌, length, get_or, Option, None, refl, sym, take, ap, arith, codes}
-use Rattle.std.specs.Option.{option_map}
-use Rattle.text_model.specs.Decimals.{decimal_within}
-use Rattle.text_model.specs.Marks.{is_room_name}
-use Rattle.std.specs.Prelude.{◌≢◌}
+-- Lines of other numbers of words than a form has, and lines of which the first words are looked at.
+use Rattle.std.proofs.Common.{◌≡◌, ℕ, ◌<◌, List, [], ◌∷◌, length, None, refl, ap, take, arith}
+use Rattle.std.specs.Prelude.{◌≢◌, ◌&&◌, not, nat_lt}
 use Rattle.std.specs.Borrow.{Bor}
-use Rattle.text_model.specs.declared.path.Reader.{Reader}
-use Rattle.text_model.specs.declared.path.Stage.{Stage}
-use Rattle.text_model.specs.declared.path.Stage.TheVariants as stage
-use Rattle.text_model.specs.Readings.{asked_line, is_word, line_at, line_read, live_line, opened_line, read_def, room_line, with_def}
+use Rattle.room_model.specs.declared.definition.RoomDef.{RoomDef}
+use Rattle.text_model.specs.Acts.{act_of}
+use Rattle.text_model.specs.DefLines.{def_of, has_name, most_defs, next_def}
+use Rattle.text_model.specs.Lines.{passing}
+use Rattle.text_model.specs.Events.{event_of, plainly_of}
+use Rattle.text_model.specs.OutLines.{plain_out}
+use Rattle.text_model.specs.Schedules.{process_of}
 use Rattle.schema_reader.specs.Words.{bytes_of}
 
-pub room_line_other : (r : Reader) (ws : List (Bor (List ℕ))) → length ws ≢ 10 → room_line r (bytes_of ws) ≡ None
-room_line_other r [] h10 = refl
-room_line_other r (a ∷ []) h10 = refl
-room_line_other r (a ∷ b ∷ []) h10 = refl
-room_line_other r (a ∷ b ∷ c ∷ []) h10 = refl
-room_line_other r (a ∷ b ∷ c ∷ d ∷ []) h10 = refl
-room_line_other r (a ∷ b ∷ c ∷ d ∷ e ∷ []) h10 = refl
-room_line_other r (a ∷ b ∷ c ∷ d ∷ e ∷ f ∷ []) h10 = refl
-room_line_other r (a ∷ b ∷ c ∷ d ∷ e ∷ f ∷ g ∷ []) h10 = refl
-room_line_other r (a ∷ b ∷ c ∷ d ∷ e ∷ f ∷ g ∷ h ∷ []) h10 = refl
-room_line_other r (a ∷ b ∷ c ∷ d ∷ e ∷ f ∷ g ∷ h ∷ i ∷ []) h10 = refl
-room_line_other r (a ∷ b ∷ c ∷ d ∷ e ∷ f ∷ g ∷ h ∷ i ∷ j ∷ []) h10 = absurd (h10 refl)
-room_line_other r (a ∷ b ∷ c ∷ d ∷ e ∷ f ∷ g ∷ h ∷ i ∷ j ∷ k ∷ ws) h10 = refl
+pub act_other : (ws : List (Bor (List ℕ))) → length ws ≢ 1 → length ws ≢ 2 → length ws ≢ 3 → length ws ≢ 4 → act_of (bytes_of ws) ≡ None
+act_other [] h1 h2 h3 h4 = refl
+act_other (a ∷ []) h1 h2 h3 h4 = absurd (h1 refl)
+act_other (a ∷ b ∷ []) h1 h2 h3 h4 = absurd (h2 refl)
+act_other (a ∷ b ∷ c ∷ []) h1 h2 h3 h4 = absurd (h3 refl)
+act_other (a ∷ b ∷ c ∷ d ∷ []) h1 h2 h3 h4 = absurd (h4 refl)
+act_other (a ∷ b ∷ c ∷ d ∷ e ∷ ws) h1 h2 h3 h4 = refl
 
-pub asked_line_other : (r : Reader) (ws : List (Bor (List ℕ))) → length ws ≢ 2 → length ws ≢ 4 → length ws ≢ 6 → asked_line r (bytes_of ws) ≡ None
-asked_line_other r [] h2 h4 h6 = refl
-asked_line_other r (a ∷ []) h2 h4 h6 = refl
-asked_line_other r (a ∷ b ∷ []) h2 h4 h6 = absurd (h2 refl)
-asked_line_other r (a ∷ b ∷ c ∷ []) h2 h4 h6 = refl
-asked_line_other r (a ∷ b ∷ c ∷ d ∷ []) h2 h4 h6 = absurd (h4 refl)
-asked_line_other r (a ∷ b ∷ c ∷ d ∷ e ∷ []) h2 h4 h6 = refl
-asked_line_other r (a ∷ b ∷ c ∷ d ∷ e ∷ f ∷ []) h2 h4 h6 = absurd (h6 refl)
-asked_line_other r (a ∷ b ∷ c ∷ d ∷ e ∷ f ∷ g ∷ ws) h2 h4 h6 = refl
+pub plainly_other : (ws : List (Bor (List ℕ))) (w : List ℕ) → length ws ≢ 1 → length ws ≢ 2 → length ws ≢ 3 → length ws ≢ 5 → plainly_of w (bytes_of ws) ≡ None
+plainly_other [] w h1 h2 h3 h5 = refl
+plainly_other (a ∷ []) w h1 h2 h3 h5 = absurd (h1 refl)
+plainly_other (a ∷ b ∷ []) w h1 h2 h3 h5 = absurd (h2 refl)
+plainly_other (a ∷ b ∷ c ∷ []) w h1 h2 h3 h5 = absurd (h3 refl)
+plainly_other (a ∷ b ∷ c ∷ d ∷ []) w h1 h2 h3 h5 = refl
+plainly_other (a ∷ b ∷ c ∷ d ∷ e ∷ []) w h1 h2 h3 h5 = absurd (h5 refl)
+plainly_other (a ∷ b ∷ c ∷ d ∷ e ∷ f ∷ ws) w h1 h2 h3 h5 = refl
 
-pub opened_line_other : (r : Reader) (ws : List (Bor (List ℕ))) → length ws ≢ 2 → length ws ≢ 3 → length ws ≢ 6 → opened_line r (bytes_of ws) ≡ None
-opened_line_other r [] h2 h3 h6 = refl
-opened_line_other r (a ∷ []) h2 h3 h6 = refl
-opened_line_other r (a ∷ b ∷ []) h2 h3 h6 = absurd (h2 refl)
-opened_line_other r (a ∷ b ∷ c ∷ []) h2 h3 h6 = absurd (h3 refl)
-opened_line_other r (a ∷ b ∷ c ∷ d ∷ []) h2 h3 h6 = refl
-opened_line_other r (a ∷ b ∷ c ∷ d ∷ e ∷ []) h2 h3 h6 = refl
-opened_line_other r (a ∷ b ∷ c ∷ d ∷ e ∷ f ∷ []) h2 h3 h6 = absurd (h6 refl)
-opened_line_other r (a ∷ b ∷ c ∷ d ∷ e ∷ f ∷ g ∷ ws) h2 h3 h6 = refl
+pub plain_out_other : (ws : List (Bor (List ℕ))) (w : List ℕ) → length ws ≢ 1 → length ws ≢ 2 → length ws ≢ 4 → plain_out w (bytes_of ws) ≡ None
+plain_out_other [] w h1 h2 h4 = refl
+plain_out_other (a ∷ []) w h1 h2 h4 = absurd (h1 refl)
+plain_out_other (a ∷ b ∷ []) w h1 h2 h4 = absurd (h2 refl)
+plain_out_other (a ∷ b ∷ c ∷ []) w h1 h2 h4 = refl
+plain_out_other (a ∷ b ∷ c ∷ d ∷ []) w h1 h2 h4 = absurd (h4 refl)
+plain_out_other (a ∷ b ∷ c ∷ d ∷ e ∷ ws) w h1 h2 h4 = refl
 
-pub live_line_other : (r : Reader) (ws : List (Bor (List ℕ))) → length ws ≢ 1 → length ws ≢ 2 → length ws ≢ 6 → live_line r (bytes_of ws) ≡ None
-live_line_other r [] h1 h2 h6 = refl
-live_line_other r (a ∷ []) h1 h2 h6 = absurd (h1 refl)
-live_line_other r (a ∷ b ∷ []) h1 h2 h6 = absurd (h2 refl)
-live_line_other r (a ∷ b ∷ c ∷ []) h1 h2 h6 = refl
-live_line_other r (a ∷ b ∷ c ∷ d ∷ []) h1 h2 h6 = refl
-live_line_other r (a ∷ b ∷ c ∷ d ∷ e ∷ []) h1 h2 h6 = refl
-live_line_other r (a ∷ b ∷ c ∷ d ∷ e ∷ f ∷ []) h1 h2 h6 = absurd (h6 refl)
-live_line_other r (a ∷ b ∷ c ∷ d ∷ e ∷ f ∷ g ∷ ws) h1 h2 h6 = refl
+-- too few words for a definition
+pub def_short : (ws : List (Bor (List ℕ))) → length ws < 10 → def_of (bytes_of ws) ≡ None
+def_short [] few = refl
+def_short (a ∷ []) few = refl
+def_short (a ∷ b ∷ []) few = refl
+def_short (a ∷ b ∷ c ∷ []) few = refl
+def_short (a ∷ b ∷ c ∷ d ∷ []) few = refl
+def_short (a ∷ b ∷ c ∷ d ∷ e ∷ []) few = refl
+def_short (a ∷ b ∷ c ∷ d ∷ e ∷ f ∷ []) few = refl
+def_short (a ∷ b ∷ c ∷ d ∷ e ∷ f ∷ g ∷ []) few = refl
+def_short (a ∷ b ∷ c ∷ d ∷ e ∷ f ∷ g ∷ h ∷ []) few = refl
+def_short (a ∷ b ∷ c ∷ d ∷ e ∷ f ∷ g ∷ h ∷ i ∷ []) few = refl
+def_short (a ∷ b ∷ c ∷ d ∷ e ∷ f ∷ g ∷ h ∷ i ∷ j ∷ ws) few = absurd (omega arith)
 
--- the words of a definition
-abbrev pub word_at : List (Bor (List ℕ)) → ℕ → Bor (List ℕ) → List ℕ
-word_at ws i d = (get_or ws i d).now
+-- ---- the first words
 
-abbrev pub has_def_words : List (Bor (List ℕ)) → Bor (List ℕ) → Bool
-has_def_words ws d =
-    is_word (codes "room") (word_at ws 0 d) && is_word (codes "max") (word_at ws 2 d) && is_word (codes "seat") (word_at ws 4 d)
-    && is_word (codes "patch") (word_at ws 6 d) && is_word (codes "keep") (word_at ws 8 d)
+pub event_taken : (ws : List (List ℕ)) → event_of (take 7 ws) ≡ event_of ws
+event_taken [] = refl
+event_taken (a ∷ []) = refl
+event_taken (a ∷ b ∷ []) = refl
+event_taken (a ∷ b ∷ c ∷ []) = refl
+event_taken (a ∷ b ∷ c ∷ d ∷ []) = refl
+event_taken (a ∷ b ∷ c ∷ d ∷ e ∷ []) = refl
+event_taken (a ∷ b ∷ c ∷ d ∷ e ∷ f ∷ []) = refl
+event_taken (a ∷ b ∷ c ∷ d ∷ e ∷ f ∷ g ∷ ws) = refl
 
-abbrev pub def_added : Reader → List (Bor (List ℕ)) → Bor (List ℕ) → Option Reader
-def_added r ws d =
-    option_map (λ x. with_def x r)
-    (read_def (word_at ws 1 d) (decimal_within 1 64 (word_at ws 3 d)) (decimal_within 1 3600000 (word_at ws 5 d))
-    (decimal_within 1 3600000 (word_at ws 7 d)) (decimal_within 0 3600000 (word_at ws 9 d)))
+pub out_taken : (w : List ℕ) (ws : List (List ℕ)) → plain_out w (take 5 ws) ≡ plain_out w ws
+out_taken w [] = refl
+out_taken w (a ∷ []) = refl
+out_taken w (a ∷ b ∷ []) = refl
+out_taken w (a ∷ b ∷ c ∷ []) = refl
+out_taken w (a ∷ b ∷ c ∷ d ∷ []) = refl
+out_taken w (a ∷ b ∷ c ∷ d ∷ e ∷ ws) = refl
 
-room_line_words : (r : Reader) (ws : List (Bor (List ℕ))) (d : Bor (List ℕ)) → length ws ≡ 10 → room_line r (bytes_of ws) ≡ cond (has_def_words ws d && is_room_name (word_at ws 1 d)) (def_added r ws d) None
-room_line_words r [] o e = absurd (omega (arith, e))
-room_line_words r (a ∷ []) o e = absurd (omega (arith, e))
-room_line_words r (a ∷ b ∷ []) o e = absurd (omega (arith, e))
-room_line_words r (a ∷ b ∷ c ∷ []) o e = absurd (omega (arith, e))
-room_line_words r (a ∷ b ∷ c ∷ d ∷ []) o e = absurd (omega (arith, e))
-room_line_words r (a ∷ b ∷ c ∷ d ∷ x ∷ []) o e = absurd (omega (arith, e))
-room_line_words r (a ∷ b ∷ c ∷ d ∷ x ∷ f ∷ []) o e = absurd (omega (arith, e))
-room_line_words r (a ∷ b ∷ c ∷ d ∷ x ∷ f ∷ g ∷ []) o e = absurd (omega (arith, e))
-room_line_words r (a ∷ b ∷ c ∷ d ∷ x ∷ f ∷ g ∷ h ∷ []) o e = absurd (omega (arith, e))
-room_line_words r (a ∷ b ∷ c ∷ d ∷ x ∷ f ∷ g ∷ h ∷ i ∷ []) o e = absurd (omega (arith, e))
-room_line_words r (a ∷ b ∷ c ∷ d ∷ f ∷ g ∷ h ∷ i ∷ j ∷ k ∷ []) o e = refl
-room_line_words r (a ∷ b ∷ c ∷ d ∷ f ∷ g ∷ h ∷ i ∷ j ∷ k ∷ l ∷ ws) o e = absurd (omega (arith, e))
+pub process_taken : (ws : List (List ℕ)) → process_of (take 3 ws) ≡ process_of ws
+process_taken [] = refl
+process_taken (a ∷ []) = refl
+process_taken (a ∷ b ∷ []) = refl
+process_taken (a ∷ b ∷ c ∷ ws) = refl
 
--- a definition that isn't of the form, and one that is
-pub room_line_refused : (r : Reader) (ws : List (Bor (List ℕ))) (d : Bor (List ℕ)) → length ws ≡ 10 → (has_def_words ws d && is_room_name (word_at ws 1 d)) ≡ false → room_line r (bytes_of ws) ≡ None
-room_line_refused r ws d e h = room_line_words r ws d e ∙ ap (λ b. cond b (def_added r ws d) None) h
+pub def_taken : (ws : List (List ℕ)) → def_of (take 13 ws) ≡ def_of ws
+def_taken [] = refl
+def_taken (a ∷ []) = refl
+def_taken (a ∷ b ∷ []) = refl
+def_taken (a ∷ b ∷ c ∷ []) = refl
+def_taken (a ∷ b ∷ c ∷ d ∷ []) = refl
+def_taken (a ∷ b ∷ c ∷ d ∷ e ∷ []) = refl
+def_taken (a ∷ b ∷ c ∷ d ∷ e ∷ f ∷ []) = refl
+def_taken (a ∷ b ∷ c ∷ d ∷ e ∷ f ∷ g ∷ []) = refl
+def_taken (a ∷ b ∷ c ∷ d ∷ e ∷ f ∷ g ∷ h ∷ []) = refl
+def_taken (a ∷ b ∷ c ∷ d ∷ e ∷ f ∷ g ∷ h ∷ i ∷ []) = refl
+def_taken (a ∷ b ∷ c ∷ d ∷ e ∷ f ∷ g ∷ h ∷ i ∷ j ∷ []) = refl
+def_taken (a ∷ b ∷ c ∷ d ∷ e ∷ f ∷ g ∷ h ∷ i ∷ j ∷ k ∷ []) = refl
+def_taken (a ∷ b ∷ c ∷ d ∷ e ∷ f ∷ g ∷ h ∷ i ∷ j ∷ k ∷ l ∷ []) = refl
+def_taken (a ∷ b ∷ c ∷ d ∷ e ∷ f ∷ g ∷ h ∷ i ∷ j ∷ k ∷ l ∷ m ∷ ws) = refl
 
-pub room_line_read : (r : Reader) (ws : List (Bor (List ℕ))) (d : Bor (List ℕ)) → length ws ≡ 10 → (has_def_words ws d && is_room_name (word_at ws 1 d)) ≡ true → room_line r (bytes_of ws) ≡ def_added r ws d
-room_line_read r ws d e h = room_line_words r ws d e ∙ ap (λ b. cond b (def_added r ws d) None) h
-
--- eleven words or more are no line of any form
-eleven_words : (s : Stage) (r : Reader) (a b c d e f g h i j k : List ℕ) (ws : List (List ℕ)) → line_at s r (a ∷ b ∷ c ∷ d ∷ e ∷ f ∷ g ∷ h ∷ i ∷ j ∷ k ∷ ws) ≡ None
-eleven_words stage.Class r a b c d e f g h i j k ws = refl
-eleven_words stage.FirstField r a b c d e f g h i j k ws = refl
-eleven_words stage.Fields r a b c d e f g h i j k ws = refl
-eleven_words stage.Process r a b c d e f g h i j k ws = refl
-eleven_words stage.Room r a b c d e f g h i j k ws = refl
-eleven_words stage.Events r a b c d e f g h i j k ws = refl
-eleven_words stage.Before r a b c d e f g h i j k ws = refl
-eleven_words stage.Asked r a b c d e f g h i j k ws = refl
-eleven_words stage.Opened r a b c d e f g h i j k ws = refl
-eleven_words stage.Live r a b c d e f g h i j k ws = refl
-eleven_words stage.Ended r a b c d e f g h i j k ws = refl
-
-pub line_read_take : (r : Reader) (ws : List (List ℕ)) → line_read r (take 11 ws) ≡ line_read r ws
-line_read_take r [] = refl
-line_read_take r (a ∷ []) = refl
-line_read_take r (a ∷ b ∷ []) = refl
-line_read_take r (a ∷ b ∷ c ∷ []) = refl
-line_read_take r (a ∷ b ∷ c ∷ d ∷ []) = refl
-line_read_take r (a ∷ b ∷ c ∷ d ∷ e ∷ []) = refl
-line_read_take r (a ∷ b ∷ c ∷ d ∷ e ∷ f ∷ []) = refl
-line_read_take r (a ∷ b ∷ c ∷ d ∷ e ∷ f ∷ g ∷ []) = refl
-line_read_take r (a ∷ b ∷ c ∷ d ∷ e ∷ f ∷ g ∷ h ∷ []) = refl
-line_read_take r (a ∷ b ∷ c ∷ d ∷ e ∷ f ∷ g ∷ h ∷ i ∷ []) = refl
-line_read_take r (a ∷ b ∷ c ∷ d ∷ e ∷ f ∷ g ∷ h ∷ i ∷ j ∷ []) = refl
-line_read_take r (a ∷ b ∷ c ∷ d ∷ e ∷ f ∷ g ∷ h ∷ i ∷ j ∷ k ∷ ws) = eleven_words r.stage r a b c d e f g h i j k [] ∙ sym (eleven_words r.stage r a b c d e f g h i j k ws)
+pub next_taken : (defs : List RoomDef) (ws : List (List ℕ)) → next_def defs (take 13 ws) ≡ next_def defs ws
+next_taken defs ws = ap (passing (λ (d : RoomDef). nat_lt (length defs) most_defs && not (has_name defs d.name))) (def_taken ws)

@@ -1,5 +1,13 @@
+pub mod Bytes
+pub mod CutLaws
 pub mod Forms
-pub mod Parts
-pub mod Pieces
+pub mod HexLaws
+pub mod JsonLaws
+pub mod KeyLaws
+pub mod PartLaws
 pub mod Prints
-pub mod TextLaws
+pub mod ReadLaws
+pub mod RefusalLaws
+pub mod ReplyLaws
+pub mod Texts
+pub mod AgainLaws

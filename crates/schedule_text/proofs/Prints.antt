@@ -1,13 +1,13 @@
 -- What is appended, part by part.
-use Rattle.std.proofs.Common.{◌≡◌, ℕ, ◌+◌, ◌/◌, ◌%◌, ◌<◌, ◌≤◌, true, eqb, List, [], ◌∷◌, ◌++◌, length, take, get_or, map, refl, sym, ap, ◌∙◌, arith, codes}
-use Rattle.std.specs.Io.{StartsWith}
+use Rattle.std.proofs.Common.{◌≡◌, ℕ, ◌+◌, ◌/◌, ◌%◌, ◌<◌, true, eqb, List, [], ◌∷◌, ◌++◌, length, take, get_or, map, Result, Ok, Err, refl, sym, ap, ◌∙◌, arith}
+use Rattle.std.specs.Prelude.{OnErr}
 use Rattle.std.specs.List.{All, flat_map}
 use Rattle.std.proofs.lemmas.List.Elements.{All-head, All-tail}
 use Rattle.std.proofs.lemmas.Bool.{agree_below_at, eqb-true}
-use Rattle.std.proofs.lemmas.List.{take_at, take-take, append_assoc, take_all, take_more, append-nil, map-append, length-append, length-map, length-take-le}
+use Rattle.std.proofs.lemmas.List.{append_assoc, take_more, append-nil, map-append, length-map, length-take-le}
 use Rattle.hex.specs.Hex.{encode_with, encode_lower, lower_digits}
-use Rattle.text_model.specs.Marks.{hex_digit, hex_byte, hex_word, line, lines, spaced}
-use Rattle.text_model.specs.Paths.{field_words, schema_lines}
+use Rattle.schema_reader.specs.Words.{behind}
+use Rattle.text_model.specs.Marks.{hex_digit, hex_byte, hex_word, spaced}
 use Rattle.std.proofs.lemmas.List.Concat.{flat_map-append}
 
 -- a digit of the table
@@ -58,31 +58,21 @@ word_more f ws i d old mid now h more m n =
     ∙ spaced_push_behind front word (omega (arith, length-map (take i ws) f, length-take-le i ws (omega arith))) in
     n ∙ (ap (λ t. t ++ word) m ∙ (append_assoc (old ++ spaced front) (32 ∷ []) word ∙ (append_assoc old (spaced front) (32 ∷ word) ∙ ap (λ t. old ++ t) (sym one))))
 
--- the schema lines, in three parts
-abbrev pub class_part : List ℕ → List ℕ
-class_part class = line (codes "class" ∷ class ∷ [])
+-- ---- rows
 
-abbrev pub field_parts : List (List ℕ) → List ℕ
-field_parts fields = flat_map (λ f. line (field_words f)) fields
+pub spaced_behind : (w : List ℕ) (ws : List (List ℕ)) → spaced (w ∷ ws) ≡ w ++ behind ws
+spaced_behind w [] = sym (append-nil w)
+spaced_behind w (v ∷ ws) = ap (λ t. w ++ 32 ∷ t) (spaced_behind v ws)
 
-abbrev pub root_part : List ℕ → List ℕ
-root_part class = line (codes "root" ∷ class ∷ [])
+-- the words of a row: its own, two numbers, and its items
+pub row_done : (old first second now w a b : List ℕ) (ws : List (List ℕ)) → first ≡ old ++ w → second ≡ first ++ behind (a ∷ b ∷ []) → now ≡ second ++ behind ws → now ≡ old ++ spaced (w ∷ a ∷ b ∷ ws)
+row_done old first second now w a b ws f s n =
+    let items : behind (a ∷ b ∷ []) ++ behind ws ≡ behind (a ∷ b ∷ ws) = sym (flat_map-append (λ w. 32 ∷ w) (a ∷ b ∷ []) ws) in
+    n ∙ (ap (λ t. t ++ behind ws) (s ∙ ap (λ t. t ++ behind (a ∷ b ∷ [])) f)
+    ∙ (append_assoc (old ++ w) (behind (a ∷ b ∷ [])) (behind ws)
+    ∙ (append_assoc old w (behind (a ∷ b ∷ []) ++ behind ws) ∙ ap (λ t. old ++ t) (ap (λ t. w ++ t) items ∙ sym (spaced_behind w (a ∷ b ∷ ws))))))
 
-flat_map_map : {A B : Type 0} (f : A → B) (g : B → List ℕ) (xs : List A) → flat_map g (map f xs) ≡ flat_map (λ x. g (f x)) xs
-flat_map_map f g [] = refl
-flat_map_map f g (x ∷ xs) = ap (λ t. g (f x) ++ t) (flat_map_map f g xs)
-
-pub schema_lines-parts : (class : List ℕ) (fields : List (List ℕ)) → lines (schema_lines class fields) ≡ class_part class ++ (field_parts fields ++ root_part class)
-schema_lines-parts class fields =
-    ap (λ t. class_part class ++ t)
-    (flat_map-append line (map field_words fields) ((codes "root" ∷ class ∷ []) ∷ [])
-    ∙ (ap (λ t. t ++ (root_part class ++ [])) (flat_map_map field_words line fields) ∙ ap (λ t. field_parts fields ++ t) (append-nil (root_part class))))
-
-pub schema_lines_done : (old mid now class : List ℕ) (fields items : List (List ℕ)) (i : ℕ) → items ≡ fields → length items ≤ i → mid ≡ old ++ (class_part class ++ field_parts (take i items)) → now ≡ mid ++ root_part class → now ≡ old ++ lines (schema_lines class fields)
-schema_lines_done old mid now class fields items i same all m n =
-    let whole : take i items ≡ fields = take_all i items all ∙ same in
-    let parts = class_part class ++ field_parts fields in
-    n
-    ∙ (ap (λ t. t ++ root_part class) (m ∙ ap (λ t. old ++ (class_part class ++ field_parts t)) whole)
-    ∙ (append_assoc old parts (root_part class)
-    ∙ ap (λ t. old ++ t) (append_assoc (class_part class) (field_parts fields) (root_part class) ∙ sym (schema_lines-parts class fields))))
+-- what holds however a call ends
+pub any_err : {T E : Type 0} {P : Type 0} (r : Result T E) → P → OnErr r P
+any_err (Ok x) p = tt
+any_err (Err e) p = p

@@ -1,2 +1,4 @@
-pub mod Takes
+pub mod Cuts
+pub mod Reads
 pub mod Words
+pub mod Again

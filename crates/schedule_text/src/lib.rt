@@ -1,16 +1,36 @@
-//! Schedules and outputs as texts.
+//! Schedules and what a replay prints: read, with their first fault, and written.
 #![tactic(auto)]
 
+mod act;
+mod again;
 mod decimal;
+mod def;
+mod event;
+mod fault;
 mod lines;
 mod names;
+mod number;
+mod output;
+mod part;
 pub mod print;
-mod reader;
-pub mod reading;
+mod printed;
+mod rows;
+mod schedule;
 mod word;
+mod words;
+mod write;
 
-pub use print::{print_end, print_fault, print_out, print_schema_lines};
-pub use reading::read_first_path;
+pub use again::written_is_read;
+pub use event::read_event;
+pub use fault::LineFault;
+pub use names::read_id;
+pub use print::{print_end, print_fault, print_out};
+pub use printed::read_print;
+pub use rows::print_rows;
+pub use schedule::read_schedule;
+pub use schema_reader::decimal::read_decimal;
+pub use words::{read_kind, read_plain, read_quoted, read_value};
+pub use write::{write_definitions, write_event, write_plain, write_quoted, write_value};
 
 #[cfg(test)]
 mod tests;

@@ -1,18 +1,17 @@
-//! The lines of outputs, of schemas and of what ends a text.
+//! The lines of outputs and of what ends a text.
 ghost use Rattle.std.specs.Prelude.{◌≡◌, ◌++◌, [], ◌∷◌, OnOk, OnErr, codes};
 ghost use Rattle.std.specs.Fmt.{decimal};
-ghost use Rattle.std.specs.Io.{StartsWith};
-ghost use Rattle.text_model.specs.Marks.{hex_word, line, lines};
+ghost use Rattle.text_model.specs.Marks.{hex_word, line};
 ghost use Rattle.text_model.specs.Outputs.{fault_word, kind_word, out_line, refusal_word};
-ghost use Rattle.text_model.specs.Paths.{schema_lines};
 ghost use Rattle.schedule_text.specs.Words.{word_text};
 
-use crate::word::Word::{Hex, Number, Plain, Quoted, Signed};
+use crate::word::Word::{Hex, Number, Plain};
 use crate::word::{Word, append_line};
+use crate::write::kind_word;
 use frame_model::MsgKind;
 use hub_model::HubOut;
-use lists::{Bytes, Memory, Text};
-use room_model::{Names, Refusal};
+use lists::{Bytes, Memory};
+use room_model::Refusal;
 use schema_model::{ConnNum, Id};
 use state_model::TableFault;
 
@@ -40,6 +39,7 @@ pub fn print_fault(out: &mut Vec<u8>, number: u32, word: &str) -> Result<(), Mem
         ],
     )
 }
+
 /// The word of a refused command.
 fn fault_text(fault: TableFault) -> &'static str
     ensures { result.now ≡ fault_word fault }
@@ -64,7 +64,7 @@ fn fault_text(fault: TableFault) -> &'static str
 }
 
 /// The word of a refusal.
-fn refusal_text(refusal: Refusal) -> &'static str
+pub fn refusal_text(refusal: Refusal) -> &'static str
     ensures { result.now ≡ refusal_word refusal }
 {
     match refusal {
@@ -76,16 +76,6 @@ fn refusal_text(refusal: Refusal) -> &'static str
         Refusal::QueueFull => "queue-full",
         Refusal::ViewFull => "view-full",
         Refusal::Table(fault) => fault_text(fault),
-    }
-}
-
-/// The word of what a message is about.
-fn kind_of(kind: &MsgKind) -> Word<'_>
-    ensures { word_text result ≡ kind_word kind.now }
-{
-    match kind {
-        MsgKind::Name(name) => Quoted(name.as_slice()),
-        MsgKind::Num(number) => Signed(*number),
     }
 }
 
@@ -137,7 +127,7 @@ fn append_message(
         Plain(what),
         Plain(&room.0),
         Plain(&session.0),
-        kind_of(kind),
+        kind_word(kind),
         Hex(payload.as_slice()),
     ];
     append_line(out, &words)
@@ -172,35 +162,4 @@ pub fn print_out(out: &mut Vec<u8>, one: &HubOut) -> Result<(), Memory>
             append_line(out, &[Plain(b"refused"), Plain(word)])
         }
     }
-}
-
-/// Appends the schema lines. An `Err` may leave some of them.
-#[tactic(auto, using(lists::proofs::Fronts::starts_after, lists::proofs::Fronts::starts_with_front))]
-fn append_schema_lines(out: &mut Vec<u8>, class: &Text, fields: &Names) -> Result<(), Memory>
-    ensures ok { OnOk result
-        (out.new.items ≡ out.old.items ++ lines (schema_lines class.now fields.now)) }
-    ensures err { OnErr result (StartsWith out.new.items out.old.items) }
-{
-    append_line(out, &[Plain(b"class"), Plain(class.as_slice())])?;
-    for field in fields.as_slice() {
-        append_line(
-            out,
-            &[Plain(b"field"), Plain(field.as_slice()), Plain(b"number")],
-        )?;
-    }
-    append_line(out, &[Plain(b"root"), Plain(class.as_slice())])?;
-    Ok(())
-}
-
-/// Appends the schema lines of a class of numbers. An `Err` leaves `out` as it was.
-pub fn print_schema_lines(out: &mut Vec<u8>, class: &Text, fields: &Names) -> Result<(), Memory>
-    ensures ok { OnOk result (out.new.items ≡ out.old.items ++ lines (schema_lines class.now fields.now)) }
-    ensures err { OnErr result (out.new.items ≡ out.old.items) }
-{
-    let before = out.len();
-    let outcome = append_schema_lines(out, class, fields);
-    if outcome.is_err() {
-        out.truncate(before);
-    }
-    outcome
 }

@@ -2,12 +2,15 @@
 ghost use Rattle.std.specs.Prelude.{◌≡◌, ◌++◌, ◌∷◌, [], ◌<◌, OnOk, OnErr};
 ghost use Rattle.std.specs.Fmt.{decimal};
 ghost use Rattle.std.specs.Io.{StartsWith};
+ghost use Rattle.std.specs.List.{flat_map};
 ghost use Rattle.text_model.specs.Decimals.{signed_text};
 ghost use Rattle.text_model.specs.Marks.{escape_digit, escaped, hex_word, line, quoted, spaced};
+ghost use Rattle.text_model.specs.WordForms.{plain};
 ghost use Rattle.schedule_text.specs.Words.{word_text, word_texts};
 
 use itoa::Buffer;
 use lists::Memory;
+use schema_reader::names::is_word;
 
 /// A word of a line, by its form.
 #[derive(Clone, Copy)]
@@ -18,10 +21,16 @@ pub enum Word<'a> {
     Number(u64),
     /// A decimal, behind `-` where it is below 0.
     Signed(i32),
+    /// The same of up to 128 bits.
+    Whole(i128),
+    /// The number of a row, behind `#`.
+    Link(u32),
     /// Bytes in hex, or `-` where there are none.
     Hex(&'a [u8]),
     /// A quoted text with its escapes.
     Quoted(&'a [u8]),
+    /// Bytes with their escapes.
+    Escaped(&'a [u8]),
 }
 
 /// Appends a decimal.
@@ -44,8 +53,18 @@ fn append_signed(out: &mut Vec<u8>, number: i32) -> Result<(), Memory>
     Ok(())
 }
 
+/// Appends a decimal of up to 128 bits, with `-` before it where the number is below 0.
+fn append_whole(out: &mut Vec<u8>, number: i128) -> Result<(), Memory>
+    ensures ok { OnOk result (out.new.items ≡ out.old.items ++ signed_text number) }
+    ensures err { OnErr result (out.new.items ≡ out.old.items) }
+{
+    let mut buffer = Buffer::new();
+    out.extend_from_slice(buffer.format(number).as_bytes())?;
+    Ok(())
+}
+
 /// Appends bytes in hex, by way of a text of its own.
-fn append_hex(out: &mut Vec<u8>, bytes: &[u8]) -> Result<(), Memory>
+pub fn append_hex(out: &mut Vec<u8>, bytes: &[u8]) -> Result<(), Memory>
     ensures ok { OnOk result (out.new.items ≡ out.old.items ++ hex_word bytes.now) }
     ensures err { OnErr result (out.new.items ≡ out.old.items) }
 {
@@ -83,21 +102,55 @@ fn append_escaped(out: &mut Vec<u8>, byte: u8) -> Result<(), Memory>
     Ok(())
 }
 
-/// Appends a quoted word. An `Err` may leave a part of it.
+/// Appends a text with its escapes. An `Err` may leave a part of it.
 #[tactic(auto, using(lists::proofs::Fronts::starts_after, lists::proofs::Fronts::starts_with_front))]
-fn append_quoted(out: &mut Vec<u8>, text: &[u8]) -> Result<(), Memory>
-    ensures ok { OnOk result (out.new.items ≡ out.old.items ++ quoted text.now) }
+fn append_escapes(out: &mut Vec<u8>, text: &[u8]) -> Result<(), Memory>
+    ensures ok { OnOk result (out.new.items ≡ out.old.items ++ flat_map escaped text.now) }
     ensures err { OnErr result (StartsWith out.new.items out.old.items) }
 {
-    out.push(b'\'')?;
     for byte in text {
         append_escaped(out, *byte)?;
     }
     Ok(())
 }
 
+/// Appends a quoted word. An `Err` may leave a part of it.
+#[tactic(auto, using(lists::proofs::Fronts::starts_after, lists::proofs::Fronts::starts_with_front))]
+pub fn append_quoted(out: &mut Vec<u8>, text: &[u8]) -> Result<(), Memory>
+    ensures ok { OnOk result (out.new.items ≡ out.old.items ++ quoted text.now) }
+    ensures err { OnErr result (StartsWith out.new.items out.old.items) }
+{
+    out.push(b'\'')?;
+    append_escapes(out, text)
+}
+
+/// Appends a plain word. An `Err` may leave a part of it.
+#[tactic(auto, using(lists::proofs::Fronts::starts_after, lists::proofs::Fronts::starts_with_front))]
+pub fn append_plain(out: &mut Vec<u8>, bytes: &[u8]) -> Result<(), Memory>
+    ensures ok { OnOk result (out.new.items ≡ out.old.items ++ plain bytes.now) }
+    ensures err { OnErr result (StartsWith out.new.items out.old.items) }
+{
+    if bytes.is_empty() {
+        return Ok(out.push(b'-')?);
+    }
+    if is_word(bytes, "-") {
+        return Ok(out.extend_from_slice(b"%2D")?);
+    }
+    append_escapes(out, bytes)
+}
+
+/// Appends the number of a row, behind `#`. An `Err` may leave a part of it.
+#[tactic(auto, using(lists::proofs::Fronts::starts_after, lists::proofs::Fronts::starts_with_front))]
+fn append_link(out: &mut Vec<u8>, number: u32) -> Result<(), Memory>
+    ensures ok { OnOk result (out.new.items ≡ out.old.items ++ 35 ∷ decimal number) }
+    ensures err { OnErr result (StartsWith out.new.items out.old.items) }
+{
+    out.push(b'#')?;
+    append_decimal(out, u64::from(number))
+}
+
 /// Appends a word. An `Err` may leave a part of it.
-fn append_word(out: &mut Vec<u8>, word: Word) -> Result<(), Memory>
+pub fn append_word(out: &mut Vec<u8>, word: Word) -> Result<(), Memory>
     ensures ok { OnOk result (out.new.items ≡ out.old.items ++ word_text word.entry) }
     ensures err { OnErr result (StartsWith out.new.items out.old.items) }
 {
@@ -105,8 +158,11 @@ fn append_word(out: &mut Vec<u8>, word: Word) -> Result<(), Memory>
         Word::Plain(text) => Ok(out.extend_from_slice(text)?),
         Word::Number(number) => append_decimal(out, number),
         Word::Signed(number) => append_signed(out, number),
+        Word::Whole(number) => append_whole(out, number),
+        Word::Link(number) => append_link(out, number),
         Word::Hex(bytes) => append_hex(out, bytes),
         Word::Quoted(text) => append_quoted(out, text),
+        Word::Escaped(bytes) => append_plain(out, bytes),
     }
 }
 
@@ -133,6 +189,19 @@ pub fn append_line(out: &mut Vec<u8>, words: &[Word]) -> Result<(), Memory>
 {
     let before = out.len();
     let outcome = append_words(out, words);
+    if outcome.is_err() {
+        out.truncate(before);
+    }
+    outcome
+}
+
+/// Appends a word. An `Err` leaves `out` as it was.
+pub fn append_one(out: &mut Vec<u8>, word: Word) -> Result<(), Memory>
+    ensures ok { OnOk result (out.new.items ≡ out.old.items ++ word_text word.entry) }
+    ensures err { OnErr result (out.new.items ≡ out.old.items) }
+{
+    let before = out.len();
+    let outcome = append_word(out, word);
     if outcome.is_err() {
         out.truncate(before);
     }

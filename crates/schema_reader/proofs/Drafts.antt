@@ -10,9 +10,9 @@ use Rattle.std.proofs.Math.Seq.{get_or-append_seam}
 use Rattle.std.proofs.lemmas.List.{append-nil, append_assoc, get_or-map, length-append, length-map, map-append, map-set}
 use Rattle.std.proofs.lemmas.Option.{get_or_from_slice_get, slice_get_within}
 use Rattle.lists.proofs.SameBytes.{same_bytes}
-use Rattle.schema_text.specs.SchemaReading.{class_place, last_names, names_from, names_inherited, place_from, with_field}
-use Rattle.schema_text.specs.declared.draft.DraftClass.{DraftClass}
-use Rattle.schema_text.specs.declared.draft.DraftField.{DraftField}
+use Rattle.text_model.specs.SchemaReading.{class_place, last_names, names_from, names_inherited, place_from, with_field}
+use Rattle.text_model.specs.declared.draft.DraftClass.{DraftClass}
+use Rattle.text_model.specs.declared.draft.DraftField.{DraftField}
 use Rattle.schema_reader.specs.Words.{bytes_of}
 use Rattle.schema_reader.specs.Indexes.{IsIndexed, Places, all_names, place_in}
 

@@ -8,11 +8,11 @@ use Rattle.std.proofs.lemmas.List.Concat.{flat_map-append}
 use Rattle.schema_model.specs.Classes.{Schema}
 use Rattle.schema_model.specs.Reading.{◌>>=◌}
 use Rattle.schema_model.specs.declared.class.Class.{Class}
-use Rattle.schema_text.specs.SchemaReading.{Draft, class_of, class_place, resolved, unknown_field, unknown_lines, unknown_root}
-use Rattle.schema_text.specs.declared.draft.DraftClass.{DraftClass}
-use Rattle.schema_text.specs.declared.draft.DraftRoot.{DraftRoot}
-use Rattle.schema_text.specs.declared.fault.SchemaFault.{SchemaFault}
-use Rattle.schema_text.specs.declared.fault.SchemaFault.TheVariants as fault
+use Rattle.text_model.specs.SchemaReading.{Draft, class_of, class_place, resolved, unknown_field, unknown_lines, unknown_root}
+use Rattle.text_model.specs.declared.draft.DraftClass.{DraftClass}
+use Rattle.text_model.specs.declared.draft.DraftRoot.{DraftRoot}
+use Rattle.text_model.specs.declared.fault.SchemaFault.{SchemaFault}
+use Rattle.text_model.specs.declared.fault.SchemaFault.TheVariants as fault
 use Rattle.schema_reader.specs.Gives.{Gives, first_unknown, root_place}
 
 -- a fault that is passed on

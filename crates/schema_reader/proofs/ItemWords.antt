@@ -8,7 +8,7 @@ use Rattle.schema_model.specs.declared.scalar.ScalarKind.{ScalarKind}
 use Rattle.schema_model.specs.declared.scalar.ScalarKind.TheVariants as kind
 use Rattle.text_model.specs.Marks.{all_kinds, is_class_name, is_id_byte, scalar_word}
 use Rattle.text_model.proofs.Ascii.{class_name_bytes}
-use Rattle.schema_text.specs.SchemaLines.{is_item_word, kind_of_word}
+use Rattle.text_model.specs.SchemaLines.{is_item_word, kind_of_word}
 
 kind_word_bytes : (k : ScalarKind) → list_all is_id_byte (scalar_word k) ≡ true
 kind_word_bytes kind.Number = refl

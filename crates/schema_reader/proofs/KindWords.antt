@@ -5,7 +5,7 @@ use Rattle.std.specs.Str.{bytes_eq}
 use Rattle.lists.proofs.SameBytes.{bytes_eq_sym}
 use Rattle.schema_model.specs.declared.scalar.ScalarKind.{ScalarKind}
 use Rattle.text_model.specs.Marks.{all_kinds, is_one_of, kind_words, scalar_word}
-use Rattle.schema_text.specs.SchemaLines.{kind_of_word}
+use Rattle.text_model.specs.SchemaLines.{kind_of_word}
 
 none_found : (w : List ℕ) (ks : List ScalarKind)
     → is_none (find (λ k. bytes_eq (scalar_word k) w) ks) ≡ not (list_any (bytes_eq w) (map scalar_word ks))

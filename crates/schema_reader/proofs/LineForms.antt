@@ -4,12 +4,12 @@ use Rattle.std.specs.Prelude.{Err, is_some}
 use Rattle.std.specs.Option.{option_map}
 use Rattle.std.proofs.lemmas.Bool.{and_parts}
 use Rattle.text_model.specs.Marks.{is_class_name, is_field_name}
-use Rattle.text_model.specs.Readings.{is_word}
-use Rattle.schema_text.specs.declared.draft.Grouping.{Grouping}
-use Rattle.schema_text.specs.declared.draft.Grouping.TheVariants.{Alone, Mapped, Listed, Gathered}
-use Rattle.schema_text.specs.SchemaLines.{SchemaLine, ClassLine, FieldLine, RootLine, Tagging, is_item_word}
-use Rattle.schema_text.specs.SchemaReading.{Draft, class_form, field_form, form_taken, line_taken, item_form, line_form, root_form, shape_form, some_if, tagging_form}
-use Rattle.schema_text.specs.declared.fault.SchemaFault.TheVariants.{UnknownWord}
+use Rattle.text_model.specs.Lines.{is_word, some_if}
+use Rattle.text_model.specs.declared.draft.Grouping.{Grouping}
+use Rattle.text_model.specs.declared.draft.Grouping.TheVariants.{Alone, Mapped, Listed, Gathered}
+use Rattle.text_model.specs.SchemaLines.{SchemaLine, ClassLine, FieldLine, RootLine, Tagging, is_item_word}
+use Rattle.text_model.specs.SchemaReading.{Draft, class_form, field_form, form_taken, line_taken, item_form, line_form, root_form, shape_form, tagging_form}
+use Rattle.text_model.specs.declared.fault.SchemaFault.TheVariants.{UnknownWord}
 use Rattle.schema_reader.specs.Forms.{IsFormed}
 
 -- no form has seven words

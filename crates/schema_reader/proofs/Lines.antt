@@ -6,10 +6,10 @@ use Rattle.std.proofs.lemmas.List.{drop-drop, length_push}
 use Rattle.schema_model.specs.Classes.{Schema}
 use Rattle.schema_model.specs.Reading.{◌>>=◌}
 use Rattle.text_model.proofs.FirstLine.{is_lf, pieces_at, pieces_without}
-use Rattle.text_model.specs.Readings.{pieces_of, words_of}
-use Rattle.schema_text.specs.SchemaReading.{Draft, empty_draft, ended, line_taken, lines_taken, read_schema_text}
-use Rattle.schema_text.specs.declared.fault.SchemaFault.{SchemaFault}
-use Rattle.schema_text.proofs.LinesFew.{lines_few, lines_taken-push}
+use Rattle.text_model.specs.Lines.{pieces_of, words_of}
+use Rattle.text_model.specs.SchemaReading.{Draft, empty_draft, ended, line_taken, lines_taken, read_schema_text}
+use Rattle.text_model.specs.declared.fault.SchemaFault.{SchemaFault}
+use Rattle.text_model.proofs.LinesFew.{lines_few, lines_taken-push}
 use Rattle.schema_reader.specs.Gives.{Gives}
 use Rattle.schema_reader.proofs.GivesLaws.{gives_err}
 

@@ -6,11 +6,11 @@ use Rattle.std.proofs.lemmas.Bool.{and_parts}
 use Rattle.schema_model.specs.Classes.{Schema, is_kept}
 use Rattle.schema_model.specs.declared.class.Class.{Class}
 use Rattle.state_model.specs.Sound.{keys_differ}
-use Rattle.schema_text.specs.declared.fault.SchemaFault.{SchemaFault}
-use Rattle.schema_text.specs.declared.fault.SchemaFault.TheVariants.{UnknownWord, UnknownClass, TwiceClass, TwiceField, TooManyFields, TooManyClasses, BadTag, NoRoot, FractionalKind, ParentLater, Memory}
-use Rattle.schema_text.specs.SchemaLines.{IsSchemaText, is_class, is_spelled, schema_text}
-use Rattle.schema_text.specs.SchemaReading.{read_schema_text}
-use Rattle.schema_text.proofs.SchemaLaw.{schema_is_read, read_is_schema}
+use Rattle.text_model.specs.declared.fault.SchemaFault.{SchemaFault}
+use Rattle.text_model.specs.declared.fault.SchemaFault.TheVariants.{UnknownWord, UnknownClass, TwiceClass, TwiceField, TooManyFields, TooManyClasses, BadTag, NoRoot, FractionalKind, ParentLater, Memory}
+use Rattle.text_model.specs.SchemaLines.{IsSchemaText, is_class, is_spelled, schema_text}
+use Rattle.text_model.specs.SchemaReading.{read_schema_text}
+use Rattle.text_model.proofs.SchemaLaw.{schema_is_read, read_is_schema}
 use Rattle.schema_reader.specs.Gives.{GivesSchema, IsGiven}
 
 -- what is answered is the schema whose text it is

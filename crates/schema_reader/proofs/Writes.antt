@@ -6,7 +6,7 @@ use Rattle.std.proofs.lemmas.List.Concat.{flat_map-append}
 use Rattle.schema_model.specs.declared.class.Class.{Class}
 use Rattle.schema_model.specs.declared.class.FieldDecl.{FieldDecl}
 use Rattle.text_model.specs.Marks.{line, lines}
-use Rattle.schema_text.specs.SchemaLines.{SchemaLine, class_lines, field_line, line_words}
+use Rattle.text_model.specs.SchemaLines.{SchemaLine, class_lines, field_line, line_words}
 use Rattle.schema_reader.proofs.GivesLaws.{map_more}
 
 -- the text of lines

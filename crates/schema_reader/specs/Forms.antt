@@ -2,7 +2,7 @@
 use Rattle.std.specs.Prelude.{◌≡◌, true}
 use Rattle.std.specs.Option.{option_map}
 use Rattle.text_model.specs.Marks.{is_class_name, is_field_name}
-use Rattle.schema_text.specs.SchemaLines.{is_item_word, SchemaLine, ClassLine, FieldLine, RootLine, Tagging, Untagged as NoTag, Default as DefaultTag, Given as GivenTag}
+use Rattle.text_model.specs.SchemaLines.{is_item_word, SchemaLine, ClassLine, FieldLine, RootLine, Tagging, Untagged as NoTag, Default as DefaultTag, Given as GivenTag}
 use Rattle.schema_reader.specs.declared.form.Form.{Form}
 use Rattle.schema_reader.specs.declared.form.Form.TheVariants.{Class, Field, Root}
 use Rattle.schema_reader.specs.declared.form.TagMark.{TagMark}

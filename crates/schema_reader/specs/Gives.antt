@@ -3,11 +3,11 @@ use Rattle.std.specs.Prelude.{◌≡◌, ℕ, suc, List, [], ◌∷◌, Option, 
 use Rattle.std.specs.Option.{option_map_or}
 use Rattle.schema_model.specs.Classes.{Schema}
 use Rattle.schema_model.specs.declared.class.Class.{Class}
-use Rattle.schema_text.specs.SchemaReading.{Draft, class_place}
-use Rattle.schema_text.specs.declared.draft.DraftClass.{DraftClass}
-use Rattle.schema_text.specs.declared.draft.DraftRoot.{DraftRoot}
-use Rattle.schema_text.specs.declared.fault.SchemaFault.{SchemaFault}
-use Rattle.schema_text.specs.declared.fault.SchemaFault.TheVariants.{Memory, NoRoot, UnknownClass}
+use Rattle.text_model.specs.SchemaReading.{Draft, class_place}
+use Rattle.text_model.specs.declared.draft.DraftClass.{DraftClass}
+use Rattle.text_model.specs.declared.draft.DraftRoot.{DraftRoot}
+use Rattle.text_model.specs.declared.fault.SchemaFault.{SchemaFault}
+use Rattle.text_model.specs.declared.fault.SchemaFault.TheVariants.{Memory, NoRoot, UnknownClass}
 
 -- this value or fault, unless memory runs out
 abbrev pub Gives : {A : Type 0} → Result A SchemaFault → Result A SchemaFault → Type 0

@@ -8,8 +8,8 @@ use Rattle.std.specs.declared.hash.FoldHasher.{FoldHasher}
 use Rattle.std.specs.declared.hash.BuildHasherDefault.{BuildHasherDefault}
 use Rattle.std.specs.Str.{bytes_eq}
 use Rattle.schema_model.specs.Classes.{most_classes}
-use Rattle.schema_text.specs.SchemaReading.{class_place, names_from}
-use Rattle.schema_text.specs.declared.draft.DraftClass.{DraftClass}
+use Rattle.text_model.specs.SchemaReading.{class_place, names_from}
+use Rattle.text_model.specs.declared.draft.DraftClass.{DraftClass}
 use Rattle.schema_reader.specs.Words.{bytes_of}
 
 -- the places of names

@@ -2,7 +2,7 @@
 ghost use Rattle.std.specs.Prelude.{◌≡◌, ◌<◌, ◌^◌, IfSome};
 ghost use Rattle.std.specs.Str.{all_ascii_digits};
 ghost use Rattle.text_model.specs.Decimals.{decimal_below, is_decimal};
-ghost use Rattle.schema_text.specs.SchemaLines.{is_tag_word};
+ghost use Rattle.text_model.specs.SchemaLines.{is_tag_word};
 ghost use Rattle.schema_reader.specs.Digits.{digits_below, more_digit};
 
 use crate::names::is_word;

@@ -3,7 +3,7 @@ ghost use Rattle.std.specs.Prelude.{◌≡◌, ◌<◌, ℕ, List, [], IfOk, OnO
 ghost use Rattle.std.specs.List.{list_any};
 ghost use Rattle.std.specs.Str.{bytes_eq};
 ghost use Rattle.text_model.specs.Marks.{is_class_name};
-ghost use Rattle.schema_text.specs.SchemaReading.{class_place, empty_draft, last_names, names_from, names_inherited, with_class, with_field};
+ghost use Rattle.text_model.specs.SchemaReading.{class_place, empty_draft, last_names, names_from, names_inherited, with_class, with_field};
 ghost use Rattle.schema_reader.specs.Words.{bytes_of};
 ghost use Rattle.schema_reader.specs.Indexes.{place_in};
 ghost use Rattle.std.specs.Map.{update};
@@ -13,10 +13,10 @@ use crate::names::is_one_of;
 use crate::words::name_text;
 use lists::{Memory, Seq};
 use schema_model::{MOST_CLASSES, TypeNum};
-use schema_text::{DraftClass, DraftField, DraftRoot};
 use std::alloc::{AllocError, Global};
 use std::collections::HashMap;
 use std::marker::Model;
+use text_model::{DraftClass, DraftField, DraftRoot};
 
 /// Adds the place of a name.
 fn add_place<'a>(
@@ -42,7 +42,7 @@ pub struct Draft<'a> {
 }
 
 impl<'a> Model for Draft<'a> {
-    ghost use Rattle.schema_text.specs.SchemaReading.{Draft as DraftOf};
+    ghost use Rattle.text_model.specs.SchemaReading.{Draft as DraftOf};
     ghost use Rattle.schema_reader.specs.Indexes.{IsIndexed};
 
     ghost Value = { DraftOf };

@@ -1,7 +1,7 @@
 //! Words of kinds of scalar.
 ghost use Rattle.std.specs.Prelude.{◌≡◌};
 ghost use Rattle.text_model.specs.Marks.{scalar_word};
-ghost use Rattle.schema_text.specs.SchemaLines.{kind_of_word};
+ghost use Rattle.text_model.specs.SchemaLines.{kind_of_word};
 
 use schema_model::{ScalarKind, each_scalar};
 

@@ -3,18 +3,18 @@
 
 pub mod decimal;
 mod draft;
-mod form;
+pub mod form;
 mod kinds;
 pub mod line;
 pub mod names;
 mod read;
 mod resolve;
 mod take;
-mod words;
+pub mod words;
 mod write;
 
 pub use read::read_schema;
-pub use schema_text::SchemaFault;
+pub use text_model::SchemaFault;
 pub use write::write_schema;
 
 #[cfg(test)]

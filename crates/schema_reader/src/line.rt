@@ -1,6 +1,6 @@
 //! The lines of a text, and the words of a line.
 ghost use Rattle.std.specs.Prelude.{◌≡◌, ◌==◌, IfOk, position, take};
-ghost use Rattle.text_model.specs.Readings.{words_of};
+ghost use Rattle.text_model.specs.Lines.{words_of};
 ghost use Rattle.schema_reader.specs.Words.{bytes_of};
 
 use std::alloc::{AllocError, Global};

@@ -3,7 +3,7 @@ ghost use Rattle.std.specs.Prelude.{◌≡◌};
 ghost use Rattle.std.specs.List.{list_all, list_any};
 ghost use Rattle.std.specs.Str.{bytes_eq};
 ghost use Rattle.text_model.specs.Marks.{has_name_length, is_class_name, is_field_name, is_name_byte, is_one_of};
-ghost use Rattle.text_model.specs.Readings.{is_word};
+ghost use Rattle.text_model.specs.Lines.{is_word};
 
 use crate::kinds::kind_of_word;
 

@@ -1,8 +1,8 @@
 //! Reading a text as a schema.
 ghost use Rattle.std.specs.Prelude.{◌≡◌, ◌<◌, ◌-◌, ◌^◌, ◌==◌, length, position, IfOk};
 ghost use Rattle.schema_model.specs.Classes.{Schema as SchemaOf};
-ghost use Rattle.schema_text.specs.SchemaLines.{IsSchemaText};
-ghost use Rattle.schema_text.specs.SchemaReading.{ended, read_schema_text};
+ghost use Rattle.text_model.specs.SchemaLines.{IsSchemaText};
+ghost use Rattle.text_model.specs.SchemaReading.{ended, read_schema_text};
 ghost use Rattle.schema_reader.specs.Gives.{Gives, GivesSchema, IsGiven, schema_of_parts};
 
 use crate::draft::Draft;
@@ -10,8 +10,8 @@ use crate::line::line_len;
 use crate::resolve::resolve;
 use crate::take::take_line;
 use schema_model::{Classes, Schema, TypeNum};
-use schema_text::SchemaFault;
 use std::alloc::Global;
+use text_model::SchemaFault;
 
 /// The classes and the root of a text of which so many lines were taken, by what stands behind its last LF.
 fn finish(

@@ -1,15 +1,15 @@
 //! The schema of what was read, where all that it names is declared.
 ghost use Rattle.std.specs.Prelude.{◌≡◌, ◌<◌, ◌-◌, ◌^◌, map};
 ghost use Rattle.std.specs.List.{flat_map};
-ghost use Rattle.schema_text.specs.SchemaReading.{class_of, field_of, item_of_word, resolved, shape_of, unknown_field, unknown_lines};
-ghost use Rattle.schema_text.specs.declared.draft.DraftClass.{DraftClass};
+ghost use Rattle.text_model.specs.SchemaReading.{class_of, field_of, item_of_word, resolved, shape_of, unknown_field, unknown_lines};
+ghost use Rattle.text_model.specs.declared.draft.DraftClass.{DraftClass};
 ghost use Rattle.schema_reader.specs.Gives.{Gives, first_unknown, root_place, schema_of_parts};
 
 use crate::draft::Draft;
 use crate::kinds::kind_of_word;
 use schema_model::{Class, Classes, FieldDecl, Fields, Item, Seq, Shape, TypeNum};
-use schema_text::{DraftClass, DraftField, Grouping, SchemaFault};
 use std::alloc::Global;
+use text_model::{DraftClass, DraftField, Grouping, SchemaFault};
 
 /// The item that a word stands for.
 fn item_of_word(draft: &Draft, word: &[u8]) -> Option<Item>

@@ -2,10 +2,10 @@
 ghost use Rattle.std.specs.Prelude.{◌≡◌, ◌<◌, IfOk, OnOk, Some, Ok, Err, true, if◌then◌else◌, length};
 ghost use Rattle.std.specs.Option.{option_map};
 ghost use Rattle.text_model.specs.Marks.{is_class_name, is_field_name};
-ghost use Rattle.text_model.specs.Readings.{words_of};
-ghost use Rattle.schema_text.specs.SchemaLines.{is_item_word};
-ghost use Rattle.schema_text.specs.SchemaReading.{class_taken, field_taken, form_taken, is_bad_tag, is_later, line_taken, parent_place, root_taken, tag_of, with_field};
-ghost use Rattle.schema_text.specs.declared.fault.SchemaFault.TheVariants.{BadTag, ParentLater};
+ghost use Rattle.text_model.specs.Lines.{words_of};
+ghost use Rattle.text_model.specs.SchemaLines.{is_item_word};
+ghost use Rattle.text_model.specs.SchemaReading.{class_taken, field_taken, form_taken, is_bad_tag, is_later, line_taken, parent_place, root_taken, tag_of, with_field};
+ghost use Rattle.text_model.specs.declared.fault.SchemaFault.TheVariants.{BadTag, ParentLater};
 ghost use Rattle.schema_reader.specs.Forms.{IsFormed, form_line, tagging_of_mark};
 ghost use Rattle.schema_reader.specs.Gives.{Gives, taken};
 ghost use Rattle.schema_reader.specs.Words.{bytes_of};
@@ -17,8 +17,8 @@ use crate::line::first_words;
 use crate::words::{is_fractional, name_text};
 use lists::Memory;
 use schema_model::{MOST_CLASSES, MOST_FIELDS, Tag, TypeNum};
-use schema_text::{DraftField, DraftRoot, Grouping, SchemaFault};
 use std::alloc::Global;
+use text_model::{DraftField, DraftRoot, Grouping, SchemaFault};
 
 /// The place of the parent, where there is one; it has to be declared before.
 fn parent_place(

@@ -2,7 +2,7 @@
 ghost use Rattle.std.specs.Prelude.{◌≡◌, IfOk, true};
 ghost use Rattle.std.specs.List.{list_all};
 ghost use Rattle.text_model.specs.Marks.{is_id_byte, is_one_of};
-ghost use Rattle.schema_text.specs.SchemaLines.{fractional_words, is_item_word};
+ghost use Rattle.text_model.specs.SchemaLines.{fractional_words, is_item_word};
 
 use crate::kinds::kind_of_word;
 use crate::names::{is_class_name, is_one_of};

@@ -1,8 +1,8 @@
 //! Writing a schema as its one text.
 ghost use Rattle.std.specs.Prelude.{◌≡◌, ◌++◌, ◌∷◌, [], IfOk, Ok, OnOk, Some, map, true};
 ghost use Rattle.text_model.specs.Marks.{line, lines};
-ghost use Rattle.schema_text.specs.SchemaLines.{ClassLine, RootLine, class_lines, class_name, field_line, grouped, grouping_of, is_spelled, item_word, line_words, parent_name, schema_text, tagging_of, tagging_words};
-ghost use Rattle.schema_text.specs.SchemaReading.{read_schema_text};
+ghost use Rattle.text_model.specs.SchemaLines.{ClassLine, RootLine, class_lines, class_name, field_line, grouped, grouping_of, is_spelled, item_word, line_words, parent_name, schema_text, tagging_of, tagging_words};
+ghost use Rattle.text_model.specs.SchemaReading.{read_schema_text};
 ghost use Rattle.schema_reader.specs.Words.{behind};
 
 use crate::kinds::scalar_word;

@@ -6,7 +6,7 @@ use Rattle.std.proofs.lemmas.List.Elements.{All-nil, All-cons}
 use Rattle.std.proofs.lemmas.List.{take_at, get_or_at, length_push}
 use Rattle.std.proofs.lemmas.Bool.{and_parts, and_from, not-true, false_from_ne_true, true≢false}
 use Rattle.text_model.specs.Marks.{spaced, lines}
-use Rattle.text_model.specs.Readings.{words_of, pieces_of}
+use Rattle.text_model.specs.Lines.{words_of, pieces_of}
 
 -- ---- lists without a byte
 
@@ -88,7 +88,7 @@ pub words_of_line : (ws : List (List ℕ)) → is_line ws ≡ true → words_of 
 words_of_line [] h = absurd (true≢false (sym h))
 words_of_line (w ∷ ws) h = words_of-spaced w ws h
 
-lacks_line : (ws : List (List ℕ)) → is_line ws ≡ true → lacks 10 (spaced ws) ≡ true
+pub lacks_line : (ws : List (List ℕ)) → is_line ws ≡ true → lacks 10 (spaced ws) ≡ true
 lacks_line [] h = absurd (true≢false (sym h))
 lacks_line (w ∷ ws) h = lacks-spaced (w ∷ ws) h
 
@@ -99,6 +99,20 @@ pieces_of-lines (ws ∷ ls) h =
     let parts = and_parts (is_line ws) (list_all is_line ls) h in
     ap pieces_of (append_assoc (spaced ws) (10 ∷ []) (lines ls))
     ∙ (cut_first 10 (spaced ws) (lines ls) (lacks_line ws parts.0) ∙ ap (λ l. spaced ws ∷ l) (pieces_of-lines ls parts.1))
+
+-- the same where words may have spaces
+pub pieces_of_texts : (ls : List (List (List ℕ))) → list_all (λ ws. lacks 10 (spaced ws)) ls ≡ true → pieces_of (lines ls) ≡ map spaced ls ++ [] ∷ []
+pieces_of_texts [] h = refl
+pieces_of_texts (ws ∷ ls) h =
+    let parts = and_parts (lacks 10 (spaced ws)) (list_all (λ ws. lacks 10 (spaced ws)) ls) h in
+    ap pieces_of (append_assoc (spaced ws) (10 ∷ []) (lines ls)) ∙ (cut_first 10 (spaced ws) (lines ls) parts.0 ∙ ap (λ l. spaced ws ∷ l) (pieces_of_texts ls parts.1))
+
+-- lines of plain words are such
+pub texts_from_lines : (ls : List (List (List ℕ))) → list_all is_line ls ≡ true → list_all (λ ws. lacks 10 (spaced ws)) ls ≡ true
+texts_from_lines [] h = refl
+texts_from_lines (ws ∷ ls) h =
+    let parts = and_parts (is_line ws) (list_all is_line ls) h in
+    and_from (lacks 10 (spaced ws)) _ (lacks_line ws parts.0) (texts_from_lines ls parts.1)
 
 pub words_of-lines : (ls : List (List (List ℕ))) → list_all is_line ls ≡ true → map words_of (map spaced ls) ≡ ls
 words_of-lines [] h = refl

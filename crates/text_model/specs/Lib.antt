@@ -1,5 +1,13 @@
 pub mod Marks
 pub mod Decimals
+pub mod Lines
+pub mod WordForms
 pub mod Outputs
-pub mod Paths
-pub mod Readings
+pub mod Acts
+pub mod Events
+pub mod DefLines
+pub mod SchemaLines
+pub mod SchemaReading
+pub mod Schedules
+pub mod OutLines
+pub mod RowLines

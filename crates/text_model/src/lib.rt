@@ -1,6 +1,10 @@
-//! The texts that the program reads and writes: schedules and outputs.
+//! The texts that the program reads and writes: schemas, schedules, outputs and rows.
 #![tactic(auto)]
 
-pub mod path;
+pub mod draft;
+pub mod fault;
+pub mod schedule;
 
-pub use path::{FirstPath, Item, Items, PathFault, PathWord, Reader, Stage};
+pub use draft::{DraftClass, DraftField, DraftRoot, Grouping};
+pub use fault::SchemaFault;
+pub use schedule::{Print, PrintLines, Schedule, ScheduleFault, Word};

@@ -1,8 +1,16 @@
-use Rattle.std.proofs.Common.{◌≤◌, ◌^◌, length, arith}
-use Rattle.room_server.proofs.EndingLaws.{played_ends}
+use Rattle.std.proofs.Common.{inl, refl, subst, sym}
+use Rattle.room_server.specs.Answers.{schedule_answer}
+use Rattle.room_server.specs.Endings.{EndsAs}
+use Rattle.room_server.specs.Turns.{printed}
+use Rattle.room_server.specs.declared.ending.Ending.TheVariants.{Done}
+use Rattle.room_server.proofs.EndingLaws.{written_ends}
+use Rattle.room_server.proofs.PlayedLaws.{text_plays}
 use Rattle.room_server.proofs.replay.replay_text.Goals as goal
+
+pub play-requires : goal.play-requires
+play-requires g c = text_plays c.args.text.now c.in-Ok.schedule c.requires.short c.in-Ok.ensures.found
 
 pub returns-in-Ok-clause-ends : goal.returns-in-Ok-clause-ends
 returns-in-Ok-clause-ends g c =
-    let short : length c.args.text.now ≤ 2 ^ 24 = omega arith in
-    played_ends c.args.text.now c.in-Ok.path c.play.result _ _ c.ended-in-Ok.result short c.in-Ok.ensures.exact c.play.ensures.writes c.ended-in-Ok.ensures
+    subst (λ r. EndsAs (schedule_answer r) (g.K.Sink.taken c.args.sink.now) (g.K.Sink.taken c.play.new.sink) c.ended.result) (sym c.in-Ok.ensures.exact)
+    (written_ends Done (printed c.in-Ok.schedule) c.play.result _ _ c.ended.result (inl refl) c.play.ensures.writes c.ended.ensures)

@@ -3,8 +3,8 @@ use Rattle.std.specs.Prelude.{Result}
 use Rattle.std.proofs.lemmas.List.{take_rest}
 use Rattle.std.proofs.lemmas.Result.{err_from_is_err_and}
 use Rattle.schema_model.specs.Classes.{Schema}
-use Rattle.schema_text.specs.declared.fault.SchemaFault.{SchemaFault}
-use Rattle.text_model.specs.Readings.{words_of}
+use Rattle.text_model.specs.declared.fault.SchemaFault.{SchemaFault}
+use Rattle.text_model.specs.Lines.{words_of}
 use Rattle.schema_reader.specs.Gives.{Gives, schema_of_parts}
 use Rattle.schema_reader.proofs.Lines.{reached_few, reached_more, read_rest, read_rest_last, read_rest_refused, read_rest_taken, read_rest_whole}
 use Rattle.schema_reader.proofs.read.read_parts.Goals as goal

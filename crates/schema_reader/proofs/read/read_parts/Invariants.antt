@@ -1,5 +1,5 @@
 use Rattle.std.proofs.Common.{◌≡◌, length}
-use Rattle.schema_text.specs.SchemaReading.{read_schema_text}
+use Rattle.text_model.specs.SchemaReading.{read_schema_text}
 use Rattle.schema_reader.proofs.Lines.{IsReached, read_rest}
 use Rattle.schema_reader.proofs.read.read_parts.Given as goal
 

@@ -1,7 +1,7 @@
 use Rattle.std.proofs.Common.{◌≡◌, [], map, take}
 use Rattle.std.specs.List.{flat_map}
-use Rattle.schema_text.specs.SchemaReading.{class_of, unknown_field}
-use Rattle.schema_text.specs.declared.draft.DraftClass.{DraftClass}
+use Rattle.text_model.specs.SchemaReading.{class_of, unknown_field}
+use Rattle.text_model.specs.declared.draft.DraftClass.{DraftClass}
 use Rattle.schema_reader.proofs.resolve.resolve_classes.Given as goal
 
 abbrev pub invariant-loop-class : goal.invariant-loop-class

@@ -2,7 +2,7 @@ use Rattle.std.proofs.Common.{◌≡◌, ◌<◌, ◌+◌, ◌∷◌, [], ◌++�
 use Rattle.std.specs.List.{flat_map}
 use Rattle.std.proofs.lemmas.Grind.{common_steps}
 use Rattle.std.proofs.lemmas.Result.{err_from_is_err_and}
-use Rattle.schema_text.specs.SchemaReading.{field_of, unknown_field}
+use Rattle.text_model.specs.SchemaReading.{field_of, unknown_field}
 use Rattle.schema_reader.proofs.GivesLaws.{first_known, gives_before, map_more, unknown_at, unknown_more}
 use Rattle.schema_reader.proofs.resolve.resolve_fields.Goals as goal
 

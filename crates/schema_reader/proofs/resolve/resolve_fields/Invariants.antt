@@ -1,6 +1,6 @@
 use Rattle.std.proofs.Common.{◌≡◌, [], map, take}
 use Rattle.std.specs.List.{flat_map}
-use Rattle.schema_text.specs.SchemaReading.{field_of, unknown_field}
+use Rattle.text_model.specs.SchemaReading.{field_of, unknown_field}
 use Rattle.schema_reader.proofs.resolve.resolve_fields.Given as goal
 
 abbrev pub invariant-loop-field : goal.invariant-loop-field

@@ -1,9 +1,9 @@
 use Rattle.std.proofs.Common.{◌≡◌, ◌∙◌, false, sym, ap, Some, rules, subst, take}
 use Rattle.std.specs.Prelude.{Result, None, is_some}
 use Rattle.std.specs.Option.{option_map}
-use Rattle.text_model.specs.Readings.{words_of}
-use Rattle.schema_text.specs.SchemaReading.{Draft}
-use Rattle.schema_text.specs.declared.fault.SchemaFault.{SchemaFault}
+use Rattle.text_model.specs.Lines.{words_of}
+use Rattle.text_model.specs.SchemaReading.{Draft}
+use Rattle.text_model.specs.declared.fault.SchemaFault.{SchemaFault}
 use Rattle.schema_reader.specs.Forms.{form_line}
 use Rattle.schema_reader.specs.Gives.{Gives, taken}
 use Rattle.schema_reader.specs.Words.{bytes_of}

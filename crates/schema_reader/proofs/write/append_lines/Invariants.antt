@@ -1,5 +1,5 @@
 use Rattle.std.proofs.Common.{◌≡◌, ◌∷◌, ◌++◌, map, take}
-use Rattle.schema_text.specs.SchemaLines.{ClassLine, field_line, parent_name}
+use Rattle.text_model.specs.SchemaLines.{ClassLine, field_line, parent_name}
 use Rattle.schema_reader.proofs.Writes.{text_of}
 use Rattle.schema_reader.proofs.write.append_lines.Given as goal
 

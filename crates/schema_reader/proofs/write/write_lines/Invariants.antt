@@ -1,6 +1,6 @@
 use Rattle.std.proofs.Common.{◌≡◌, take}
 use Rattle.std.specs.List.{flat_map}
-use Rattle.schema_text.specs.SchemaLines.{class_lines}
+use Rattle.text_model.specs.SchemaLines.{class_lines}
 use Rattle.schema_reader.proofs.Writes.{text_of}
 use Rattle.schema_reader.proofs.write.write_lines.Given as goal
 

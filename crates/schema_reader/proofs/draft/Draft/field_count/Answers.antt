@@ -1,7 +1,7 @@
 use Rattle.std.proofs.Common.{ap, ◌∙◌, length, ◌-◌, arith}
 use Rattle.std.specs.Prelude.{slice_get}
 use Rattle.std.proofs.lemmas.List.{length-map}
-use Rattle.schema_text.specs.SchemaReading.{last_names}
+use Rattle.text_model.specs.SchemaReading.{last_names}
 use Rattle.schema_reader.proofs.Drafts.{last_names-found}
 use Rattle.schema_reader.proofs.draft.Draft.field_count.Goals as goal
 

@@ -4,7 +4,7 @@ use Rattle.std.specs.Map.{update}
 use Rattle.std.specs.Str.{bytes_eq}
 use Rattle.schema_reader.specs.Indexes.{place_in}
 use Rattle.std.proofs.lemmas.Grind.{common_steps}
-use Rattle.schema_text.specs.SchemaReading.{class_place, names_from, names_inherited}
+use Rattle.text_model.specs.SchemaReading.{class_place, names_from, names_inherited}
 use Rattle.schema_reader.proofs.Drafts.{indexed_class}
 use Rattle.schema_reader.proofs.draft.Draft.push_class.Goals as goal
 

@@ -3,9 +3,9 @@ use Rattle.std.proofs.Math.Seq.{map-set_same}
 use Rattle.std.proofs.lemmas.Grind.{common_steps}
 use Rattle.std.proofs.lemmas.List.{map-append, set-get_or}
 use Rattle.std.specs.Prelude.{List, Option}
-use Rattle.schema_text.specs.SchemaReading.{Draft, with_field}
-use Rattle.schema_text.specs.declared.draft.DraftClass.{DraftClass}
-use Rattle.schema_text.specs.declared.draft.DraftRoot.{DraftRoot}
+use Rattle.text_model.specs.SchemaReading.{Draft, with_field}
+use Rattle.text_model.specs.declared.draft.DraftClass.{DraftClass}
+use Rattle.text_model.specs.declared.draft.DraftRoot.{DraftRoot}
 use Rattle.schema_reader.specs.Words.{bytes_of}
 use Rattle.schema_reader.proofs.Drafts.{indexed_field, indexed_kept, last_inside, with_field-set}
 use Rattle.schema_reader.proofs.draft.Draft.push_field.Goals as goal

@@ -1,0 +1,6 @@
+use Rattle.std.proofs.Common.{◌≡◌, ◌+◌, ◌++◌}
+use Rattle.load_maker.specs.Generated.{seat_of, up_to}
+use Rattle.load_maker.proofs.parts.push_seats.Given as goal
+
+abbrev pub invariant-loop-n : goal.invariant-loop-n
+invariant-loop-n l = l.events ≡ l.fn.events ++ up_to (λ n. seat_of (n + 1)) l.n

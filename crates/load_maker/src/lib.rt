@@ -1,0 +1,11 @@
+//! A load of its own: a game with drawn numbers, as a schedule.
+#![tactic(auto)]
+
+mod draws;
+mod game;
+mod load;
+mod names;
+mod parts;
+mod rounds;
+
+pub use load::{MOST_ROUNDS, generate};

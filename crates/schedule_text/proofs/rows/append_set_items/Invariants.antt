@@ -1,0 +1,7 @@
+use Rattle.std.proofs.Common.{◌≡◌, ◌++◌, map, take}
+use Rattle.schema_reader.specs.Words.{behind}
+use Rattle.text_model.specs.RowLines.{set_item_word}
+use Rattle.schedule_text.proofs.rows.append_set_items.Given as goal
+
+abbrev pub invariant-loop-item : goal.invariant-loop-item
+invariant-loop-item l = l.out.items ≡ l.fn.out.items ++ behind (map set_item_word (take l.item-index l.items))

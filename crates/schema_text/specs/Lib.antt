@@ -1,2 +1,0 @@
-pub mod SchemaLines
-pub mod SchemaReading
