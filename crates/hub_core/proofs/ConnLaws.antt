@@ -15,7 +15,12 @@ use Rattle.lists.specs.Rising.{RisesFrom, find as find_by, put, remove}
 use Rattle.lists.proofs.RisingLaws.{find_below, remove_missing}
 use Rattle.hub_model.specs.declared.conn.HubConn.{HubConn}
 use Rattle.hub_model.specs.HubValues.{conn_for, conn_number, is_conn_for}
+use Rattle.hub_core.specs.declared.conns.Linked.TheInside.{Inside}
 use Rattle.hub_core.specs.Conns.{by_both, AreApart, AreNumbers}
+
+-- a connection as the hub's value has it
+abbrev pub conn_of : Inside → HubConn
+conn_of l = record { conn = l.conn; room = l.room; session = l.session }
 
 both_equal : (a b : Ordering) → is_eq (ordering_then a b) ≡ is_eq a && is_eq b
 both_equal Less b = refl

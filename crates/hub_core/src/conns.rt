@@ -10,11 +10,14 @@ use std::alloc::Global;
 use std::collections::BTreeMap;
 use std::marker::Model;
 
-/// A connection, and the number that its room had when it was opened: where its room is looked for first.
+/// A connection, and the number that its room had when it was opened, where its room is looked for first: its lower half, so
+/// that many connections stand in a line of the cache.
 #[derive(Drop)]
 pub struct Linked {
-    pub conn: HubConn,
-    pub near: u64,
+    pub conn: ConnNum,
+    pub room: Id,
+    pub session: Id,
+    pub near: u32,
 }
 
 impl Model for Linked {
@@ -22,7 +25,7 @@ impl Model for Linked {
 
     ghost Value = { HubConn };
 
-    ghost view = { λ l. l.conn };
+    ghost view = { λ l. record { conn = l.conn; room = l.room; session = l.session } };
 }
 
 /// Connections with their rooms and sessions, rising by their numbers; no two are of one session. One is found by its number
@@ -83,7 +86,13 @@ impl Conns {
         let key = key_of(conn.room, conn.session);
         let number = number_in(&conn);
         self.by_session.insert(key, number)?;
-        match self.by_number.insert(number, Linked { conn, near }) {
+        let linked = Linked {
+            conn: conn.conn,
+            room: conn.room,
+            session: conn.session,
+            near: u32::try_from(near).unwrap_or(u32::MAX),
+        };
+        match self.by_number.insert(number, linked) {
             Ok(_) => Ok(()),
             Err(_) => {
                 self.by_session.remove(&key);

@@ -31,9 +31,9 @@ impl<R: RoomLike> Parts<R> {
         let Some(at) = self.conns.get(conn) else {
             return told.push(HubOut::Refused(Refusal::NoConn));
         };
-        let (at, near) = (at.conn, at.near);
-        let event = RoomEvent::Frame(at.session, copy_bytes(self.alloc, bytes)?);
-        self.play(at.room, Some(near), &event, told, steps)
+        let (room, session, near) = (at.room, at.session, u64::from(at.near));
+        let event = RoomEvent::Frame(session, copy_bytes(self.alloc, bytes)?);
+        self.play(room, Some(near), &event, told, steps)
     }
 
     /// A connection is lost.
@@ -50,9 +50,9 @@ impl<R: RoomLike> Parts<R> {
         let Some(at) = self.conns.get(conn) else {
             return told.push(HubOut::Refused(Refusal::NoConn));
         };
-        let (at, near) = (at.conn, at.near);
-        let event = RoomEvent::Lost(at.session, self.moment);
-        self.play(at.room, Some(near), &event, told, steps)
+        let (room, session, near) = (at.room, at.session, u64::from(at.near));
+        let event = RoomEvent::Lost(session, self.moment);
+        self.play(room, Some(near), &event, told, steps)
     }
 
     /// An act of a room.

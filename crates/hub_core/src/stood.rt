@@ -18,11 +18,11 @@ use steps::Steps;
 /// and itself.
 #[derive(Drop)]
 pub struct Stood<R> {
-    pub criteria: Texts,
     pub serial: u64,
     pub def: u32,
     pub id: Id,
     pub room: R,
+    pub criteria: Texts,
 }
 
 /// A room of a hub in memory of its own, so that a tree of rooms moves none when others come and go.

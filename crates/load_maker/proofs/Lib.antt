@@ -1,2 +1,3 @@
+pub mod LoadRows
 pub mod Pushed
 pub mod Schedules

@@ -35,6 +35,14 @@ use Rattle.room_core.proofs.ClientLists.{named_there, changed_there, gone_there}
 pub nothing_happens : (r : RoomValue) (session : List ℕ) (happens : Session → RoomValue × List RoomOut) → session_of r.sessions session ≡ None → where_connected r (session_of r.sessions session) happens ≡ (r, [])
 nothing_happens r session happens gone = ap (λ o. where_connected r o happens) gone
 
+-- a frame of a connected session is read, whatever the session is
+read_alike : (r : RoomValue) (o : Option Session) (x : RoomValue × List RoomOut) → option_map_or (λ (s : Session). is_connected s.stage) o false ≡ true → where_connected r o (λ s. x) ≡ x
+read_alike r None x connected = absurd cc
+read_alike r (Some s) x connected = ap (λ b. cond b x (r, [])) connected
+
+pub read_step : (r : RoomValue) (session bytes : List ℕ) → is_connected_in r session ≡ true → after_frame r session bytes ≡ after_read r session (read_client bytes)
+read_step r session bytes connected = read_alike r (session_of r.sessions session) (after_read r session (read_client bytes)) connected
+
 -- where it has a connection it happens
 happens_to : (r : RoomValue) (session : List ℕ) (s : Session) (happens : Session → RoomValue × List RoomOut) → session_of r.sessions session ≡ Some s → is_connected_in r session ≡ true
     → where_connected r (session_of r.sessions session) happens ≡ happens s

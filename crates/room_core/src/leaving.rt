@@ -29,8 +29,8 @@ use view_counts::ViewCounts;
 const CONSENTED: u16 = 4000;
 
 impl Parts {
-    /// A frame of a connected session: its acknowledgement, that it leaves, or a message, which is handed on. What can't be
-    /// read is answered by an error.
+    /// A frame of a connected session: its acknowledgement, that it leaves, or a message, which is handed on without a look
+    /// at the session. What can't be read is answered by an error.
     pub fn frame(&mut self, session: Id, bytes: &Bytes) -> Result<RoomOuts, Memory>
         requires stands { RoomStands self.old }
         requires order { Ordered (room_of self.old) }
@@ -40,16 +40,19 @@ impl Parts {
         ensures stands { OnOk result (RoomStands self.new) }
         ensures order { OnErr result (Ordered (room_of self.new)) }
     {
-        let Some(at) = self.place_of(session) else {
-            return Ok(Seq::new(self.alloc));
-        };
         match read_client(self.alloc, bytes.as_slice()) {
             Ok(ClientFrame::Ack) => {
+                let Some(at) = self.place_of(session) else {
+                    return Ok(Seq::new(self.alloc));
+                };
                 let client = &mut self.clients[at];
                 client.stage = acknowledged(client.stage);
                 Ok(Seq::new(self.alloc))
             }
             Ok(ClientFrame::Leave) => {
+                let Some(at) = self.place_of(session) else {
+                    return Ok(Seq::new(self.alloc));
+                };
                 let outs = closed(self.alloc, session, CONSENTED)?;
                 self.end(session, at);
                 Ok(outs)

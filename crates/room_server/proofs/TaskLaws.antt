@@ -2,10 +2,11 @@
 use Rattle.std.proofs.Common.{◌≡◌, ◌≤◌, ◌+◌, ℕ, Bool, true, false, List, [], ◌∷◌, Option, Some, None, cond, codes}
 use Rattle.std.specs.Option.{option_map}
 use Rattle.std.specs.Str.{bytes_eq}
+use Rattle.text_model.specs.Events.{number_of_word}
 use Rattle.text_model.specs.Lines.{both}
 use Rattle.room_server.specs.declared.task.Task.{Task}
 use Rattle.room_server.specs.declared.task.Task.TheVariants.{Replay, Serve, View, Make}
-use Rattle.room_server.specs.Words.{alone, number_of, rounds_of, task_of, with_one, with_two}
+use Rattle.room_server.specs.Words.{alone, rounds_of, task_of, with_one, with_two}
 use Rattle.room_server.proofs.EndingLaws.{Built}
 
 viewed : (o : Option ℕ) → Built (option_map View o)
@@ -26,12 +27,12 @@ task_built (w ∷ []) = go (bytes_eq w (codes "replay"))
     go false = tt
 task_built (w ∷ a ∷ []) = go (bytes_eq w (codes "view"))
   where
-    go : (b : Bool) → Built (cond b (option_map View (number_of a)) None)
-    go true = viewed (number_of a)
+    go : (b : Bool) → Built (cond b (option_map View (number_of_word a)) None)
+    go true = viewed (number_of_word a)
     go false = tt
 task_built (w ∷ a ∷ b ∷ []) = go (bytes_eq w (codes "make"))
   where
-    go : (t : Bool) → Built (cond t (both Make (number_of a) (rounds_of b)) None)
-    go true = made (number_of a) (rounds_of b)
+    go : (t : Bool) → Built (cond t (both Make (number_of_word a) (rounds_of b)) None)
+    go true = made (number_of_word a) (rounds_of b)
     go false = tt
 task_built (w ∷ a ∷ b ∷ c ∷ ws) = tt

@@ -1,16 +1,13 @@
 -- The words behind the program's name: which command they are, and the line that is written where they are none. Ours.
-use Rattle.std.specs.Prelude.{ℕ, ◌+◌, ◌^◌, ◌≤◌, List, [], ◌∷◌, ◌++◌, Option, Some, None, if◌then◌else◌, codes}
+use Rattle.std.specs.Prelude.{ℕ, ◌+◌, ◌≤◌, List, [], ◌∷◌, ◌++◌, Option, Some, None, if◌then◌else◌, codes}
 use Rattle.std.specs.Option.{option_map}
 use Rattle.std.specs.Str.{bytes_eq}
 use Rattle.text_model.specs.Decimals.{decimal_below}
+use Rattle.text_model.specs.Events.{number_of_word}
 use Rattle.text_model.specs.Lines.{both}
 use Rattle.load_maker.specs.Generated.{most_rounds}
 use Rattle.room_server.specs.declared.task.Task.{Task}
 use Rattle.room_server.specs.declared.task.Task.TheVariants.{Replay, View, Make}
-
--- a decimal of 64 bits
-abbrev pub number_of : List ℕ → Option ℕ
-number_of w = decimal_below (2 ^ 64) w
 
 -- a count of rounds
 abbrev pub rounds_of : List ℕ → Option ℕ
@@ -20,10 +17,10 @@ abbrev pub alone : List ℕ → Option Task
 alone w = if bytes_eq w (codes "replay") then Some Replay else None
 
 abbrev pub with_one : List ℕ → List ℕ → Option Task
-with_one w a = if bytes_eq w (codes "view") then option_map View (number_of a) else None
+with_one w a = if bytes_eq w (codes "view") then option_map View (number_of_word a) else None
 
 abbrev pub with_two : List ℕ → List ℕ → List ℕ → Option Task
-with_two w a b = if bytes_eq w (codes "make") then both Make (number_of a) (rounds_of b) else None
+with_two w a b = if bytes_eq w (codes "make") then both Make (number_of_word a) (rounds_of b) else None
 
 -- the command of the words, where they are one's
 abbrev pub task_of : List (List ℕ) → Option Task

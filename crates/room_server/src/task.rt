@@ -1,8 +1,9 @@
 //! The commands, by the words behind the program's name.
 ghost use Rattle.std.specs.Prelude.{◌≡◌, IfSome};
 ghost use Rattle.std.specs.Option.{option_map};
+ghost use Rattle.text_model.specs.Events.{number_of_word};
 ghost use Rattle.text_model.specs.Lines.{both};
-ghost use Rattle.room_server.specs.Words.{IsWithin, number_of, rounds_of, task_of};
+ghost use Rattle.room_server.specs.Words.{IsWithin, rounds_of, task_of};
 ghost use Rattle.room_server.specs.declared.task.Task.TheVariants as task;
 
 use load_maker::MOST_ROUNDS;
@@ -39,7 +40,7 @@ pub fn read_words(words: &Words) -> Option<Task>
 
 // `view`, by the word behind it.
 fn read_view(conn: &[u8]) -> Option<Task>
-    ensures { result ≡ option_map task.View (number_of conn.now) }
+    ensures { result ≡ option_map task.View (number_of_word conn.now) }
 {
     let conn = read_decimal(conn)?;
     Some(Task::View { conn })
@@ -47,7 +48,7 @@ fn read_view(conn: &[u8]) -> Option<Task>
 
 // `make`, by the words behind it.
 fn read_make(seed: &[u8], rounds: &[u8]) -> Option<Task>
-    ensures task { result ≡ both task.Make (number_of seed.now) (rounds_of rounds.now) }
+    ensures task { result ≡ both task.Make (number_of_word seed.now) (rounds_of rounds.now) }
     ensures within { IfSome result IsWithin }
 {
     let seed = read_decimal(seed)?;

@@ -15,8 +15,8 @@ use std::marker::Model;
 /// is taken by `new`. A session, a token and the least lapse are found in logarithmic time.
 #[derive(Drop)]
 pub struct SeatLedger {
-    places: Places,
     locked: bool,
+    places: Places,
 }
 
 impl Model for SeatLedger {

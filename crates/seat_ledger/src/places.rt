@@ -13,14 +13,14 @@ use std::alloc::Global;
 use std::marker::Model;
 
 /// Entries in the order of reserving, in memory that is taken once. A session, a token and the least lapse are found in
-/// logarithmic time.
+/// logarithmic time. What is asked at each event stands first, together, so that it is in few lines of the cache.
 #[derive(Drop)]
 pub struct Places {
-    by_token: Index,
-    by_lapse: Index,
     max: u32,
     entries: Vec<SeatEntry>,
+    by_lapse: Index,
     by_session: Index,
+    by_token: Index,
 }
 
 impl Model for Places {

@@ -1,16 +1,14 @@
 //! Why work gives no sum.
 use lists::Memory;
-use matchmaker::AskFault;
 use patch_decoder::OpFault;
 use room_model::SeatFault;
 use schema_reader::SchemaFault;
-use state_model::TableFault;
 use thiserror::Error;
 
 /// Why work gives no sum.
 #[derive(Clone, Copy, Debug, Error)]
 pub enum WorkFault {
-    /// A command or an event was: the size is more than a room can have. Or a schema or a frame was.
+    /// A schema, a frame or a seat was.
     #[error("refused")]
     Refused,
     #[error("out of memory")]
@@ -33,12 +31,6 @@ impl WorkFault {
     }
 }
 
-impl From<TableFault> for WorkFault {
-    fn from(fault: TableFault) -> Self {
-        WorkFault::of(matches!(fault, TableFault::Memory))
-    }
-}
-
 impl From<SeatFault> for WorkFault {
     fn from(_: SeatFault) -> Self {
         WorkFault::Refused
@@ -54,11 +46,5 @@ impl From<OpFault> for WorkFault {
 impl From<SchemaFault> for WorkFault {
     fn from(fault: SchemaFault) -> Self {
         WorkFault::of(matches!(fault, SchemaFault::Memory))
-    }
-}
-
-impl From<AskFault> for WorkFault {
-    fn from(fault: AskFault) -> Self {
-        WorkFault::of(matches!(fault, AskFault::Memory))
     }
 }

@@ -1,11 +1,13 @@
-//! State bytes of the game that is measured, spelled number by number: players with a name and two numbers, or an array of
-//! numbers.
-use crate::game::{COLLECTION, NUMBERS, PLAYERS, ROOT, X, player};
+//! State bytes of the game that is measured, spelled number by number: players with a name and two numbers.
+use crate::game::{COLLECTION, PLAYERS, X, player};
 use lists::Memory;
 use scalar_codec::put_number;
 use schema_model::RefNum;
 use std::alloc::Global;
-use wire_model::codes::{ADD, DELETE, REPLACE, SWITCH, TYPE_MARK};
+use wire_model::codes::{ADD, REPLACE, SWITCH, TYPE_MARK};
+
+// The first of the other numbers.
+const FIRST: u32 = 20_000;
 
 // The mark of a player.
 const PLAYER_MARK: [u8; 2] = [TYPE_MARK, 1];
@@ -74,36 +76,12 @@ fn put_map(alloc: Global, out: &mut Vec<u8>, players: u32) -> Result<(), Memory>
     Ok(())
 }
 
-/// A patch in which so many players, every tenth one, get a first number from this one on.
-pub fn patch(alloc: Global, changes: u32, number: u32) -> Result<Vec<u8>, Memory> {
+/// A patch in which so many players, every tenth one, get another first number.
+pub fn changes(alloc: Global, count: u32) -> Result<Vec<u8>, Memory> {
     let mut out = Vec::new(alloc);
-    for change in 0..changes {
+    for change in 0..count {
         turn(&mut out, player(change.wrapping_mul(10)))?;
-        code(&mut out, REPLACE + X, number.wrapping_add(change))?;
-    }
-    Ok(out)
-}
-
-/// The full state of so many numbers in an array.
-pub fn full_numbers(alloc: Global, count: u32) -> Result<Vec<u8>, Memory> {
-    let mut out = Vec::new(alloc);
-    code(&mut out, ADD + NUMBERS, COLLECTION.0)?;
-    turn(&mut out, COLLECTION)?;
-    for at in 0..count {
-        code(&mut out, ADD, at)?;
-        put(&mut out, at)?;
-    }
-    Ok(out)
-}
-
-/// A patch that takes an item out of the collection so many times, and goes to the root after each: of 0 first, and then
-/// each time so much further on.
-pub fn deletes(alloc: Global, count: u32, step: u32) -> Result<Vec<u8>, Memory> {
-    let mut out = Vec::new(alloc);
-    for turns in 0..count {
-        turn(&mut out, COLLECTION)?;
-        code(&mut out, DELETE, turns.wrapping_mul(step))?;
-        turn(&mut out, ROOT)?;
+        code(&mut out, REPLACE + X, change.wrapping_add(FIRST))?;
     }
     Ok(out)
 }

@@ -3,23 +3,15 @@
 //! It prints a sum that a second run repeats. Without words, or with others, it prints nothing.
 #![tactic(auto)]
 
-mod commands;
-mod decoding;
-mod events;
 mod fault;
 mod frames;
 mod game;
-mod hubs;
 mod kernel;
-mod messages;
 mod packs;
 mod part;
-mod requests;
-mod schemas;
+mod patches;
 mod seats;
 mod sums;
-mod tables;
-mod views;
 
 use fault::WorkFault;
 use kernel::Kernel;

@@ -1,4 +1,6 @@
 //! What is done of a kernel.
+ghost use Rattle.std.specs.Prelude.{◌≡◌};
+ghost use Rattle.workload.specs.declared.part.Part.TheVariants as part;
 
 /// All of it, or only what comes before the work.
 #[derive(Clone, Copy)]
@@ -20,7 +22,10 @@ impl Part {
     }
 
     /// How often work is done that is done all or not at all.
-    pub fn times(self, times: u32) -> u32 {
+    pub fn times(self, times: u32) -> u32
+        ensures all { self ≡ part.All → result ≡ times }
+        ensures before { self ≡ part.Before → result ≡ 0 }
+    {
         match self {
             Part::All => times,
             Part::Before => 0,

@@ -6,6 +6,7 @@ use Rattle.hub_model.specs.declared.event.HubOut.TheVariants as out
 use Rattle.hub_core.specs.Hubs.{hub_of}
 use Rattle.hub_core.specs.Played.{played_in}
 use Rattle.hub_core.specs.Takes.{rules_of}
+use Rattle.hub_core.proofs.ConnLaws.{conn_of}
 use Rattle.hub_core.proofs.EventLaws.{no_frame, may_frame, frame_step, room_there, takes_played}
 use Rattle.hub_core.proofs.RoomLaws.{one_ok, pushed_ok}
 use Rattle.hub_core.proofs.parts.Parts.frame.Goals as goal
@@ -16,12 +17,12 @@ returns-in_default g c =
     (pushed_ok c.push.result c.push.new.self c.args.told.now (out.Refused refusal.NoConn ∷ []) c.push.ensures)
 
 pub play-requires-clause-happen : goal.play-requires-clause-happen
-play-requires-clause-happen g c = may_frame g.R.RoomLike.room g.R.RoomLike.Holds c.args.self.now c.requires c.args.conn c.at.inside.conn (ap Some c.at.view_is ∙ c.in-Some.ensures) c.in_ok-copy_bytes.field-0
+play-requires-clause-happen g c = may_frame g.R.RoomLike.room g.R.RoomLike.Holds c.args.self.now c.requires c.args.conn (conn_of c.at.inside) (ap Some c.at.view_is ∙ c.in-Some.ensures) c.in_ok-copy_bytes.field-0
 
 pub returns : goal.returns
 returns g c =
     let old = c.args.self.now in
     let h = hub_of g.R.RoomLike.room old in
-    let is = frame_step (rules_of g.R.RoomLike.happens) h c.args.conn c.args.bytes.now c.at.inside.conn (sym (ap Some c.at.view_is ∙ c.in-Some.ensures)) (room_there g.R.RoomLike.room g.R.RoomLike.Holds c.args.self.now c.requires c.args.conn c.at.inside.conn (ap Some c.at.view_is ∙ c.in-Some.ensures)) in
-    takes_played g.R.RoomLike.room g.R.RoomLike.Holds g.R.RoomLike.happens (happened.Frame c.args.conn c.args.bytes.now) old c.play.new.self c.args.told.now c.play.new.told c.at.inside.conn.room (event.Frame c.at.inside.conn.session c.in_ok-copy_bytes.field-0) c.play.result
-    (is ∙ ap (λ b. played_in g.R.RoomLike.happens h c.at.inside.conn.room (event.Frame c.at.inside.conn.session b)) (sym c.in_ok-copy_bytes.ensures)) c.play.ensures.hub c.play.ensures.told c.play.ensures.stands
+    let is = frame_step (rules_of g.R.RoomLike.happens) h c.args.conn c.args.bytes.now (conn_of c.at.inside) (sym (ap Some c.at.view_is ∙ c.in-Some.ensures)) (room_there g.R.RoomLike.room g.R.RoomLike.Holds c.args.self.now c.requires c.args.conn (conn_of c.at.inside) (ap Some c.at.view_is ∙ c.in-Some.ensures)) in
+    takes_played g.R.RoomLike.room g.R.RoomLike.Holds g.R.RoomLike.happens (happened.Frame c.args.conn c.args.bytes.now) old c.play.new.self c.args.told.now c.play.new.told c.at.inside.room (event.Frame c.at.inside.session c.in_ok-copy_bytes.field-0) c.play.result
+    (is ∙ ap (λ b. played_in g.R.RoomLike.happens h c.at.inside.room (event.Frame c.at.inside.session b)) (sym c.in_ok-copy_bytes.ensures)) c.play.ensures.hub c.play.ensures.told c.play.ensures.stands

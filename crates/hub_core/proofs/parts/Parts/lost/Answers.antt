@@ -5,6 +5,7 @@ use Rattle.hub_model.specs.declared.event.HubEvent.TheVariants as happened
 use Rattle.hub_model.specs.declared.event.HubOut.TheVariants as out
 use Rattle.hub_core.specs.Hubs.{hub_of}
 use Rattle.hub_core.specs.Takes.{rules_of}
+use Rattle.hub_core.proofs.ConnLaws.{conn_of}
 use Rattle.hub_core.proofs.EventLaws.{no_loss, may_lose, lost_step, room_there, takes_played}
 use Rattle.hub_core.proofs.RoomLaws.{one_ok, pushed_ok}
 use Rattle.hub_core.proofs.parts.Parts.lost.Goals as goal
@@ -15,11 +16,11 @@ returns-in_default g c =
     (pushed_ok c.push.result c.push.new.self c.args.told.now (out.Refused refusal.NoConn ∷ []) c.push.ensures)
 
 pub play-requires-clause-happen : goal.play-requires-clause-happen
-play-requires-clause-happen g c = may_lose g.R.RoomLike.room g.R.RoomLike.Holds c.args.self.now c.requires c.args.conn c.at.inside.conn (ap Some c.at.view_is ∙ c.in-Some.ensures)
+play-requires-clause-happen g c = may_lose g.R.RoomLike.room g.R.RoomLike.Holds c.args.self.now c.requires c.args.conn (conn_of c.at.inside) (ap Some c.at.view_is ∙ c.in-Some.ensures)
 
 pub returns : goal.returns
 returns g c =
     let old = c.args.self.now in
     let h = hub_of g.R.RoomLike.room old in
-    takes_played g.R.RoomLike.room g.R.RoomLike.Holds g.R.RoomLike.happens (happened.Lost c.args.conn) old c.play.new.self c.args.told.now c.play.new.told c.at.inside.conn.room (event.Lost c.at.inside.conn.session old.moment) c.play.result
-    (lost_step (rules_of g.R.RoomLike.happens) h c.args.conn c.at.inside.conn (sym (ap Some c.at.view_is ∙ c.in-Some.ensures)) (room_there g.R.RoomLike.room g.R.RoomLike.Holds c.args.self.now c.requires c.args.conn c.at.inside.conn (ap Some c.at.view_is ∙ c.in-Some.ensures))) c.play.ensures.hub c.play.ensures.told c.play.ensures.stands
+    takes_played g.R.RoomLike.room g.R.RoomLike.Holds g.R.RoomLike.happens (happened.Lost c.args.conn) old c.play.new.self c.args.told.now c.play.new.told c.at.inside.room (event.Lost c.at.inside.session old.moment) c.play.result
+    (lost_step (rules_of g.R.RoomLike.happens) h c.args.conn (conn_of c.at.inside) (sym (ap Some c.at.view_is ∙ c.in-Some.ensures)) (room_there g.R.RoomLike.room g.R.RoomLike.Holds c.args.self.now c.requires c.args.conn (conn_of c.at.inside) (ap Some c.at.view_is ∙ c.in-Some.ensures))) c.play.ensures.hub c.play.ensures.told c.play.ensures.stands

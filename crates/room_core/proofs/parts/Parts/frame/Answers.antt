@@ -1,4 +1,4 @@
-use Rattle.std.proofs.Common.{◌≡◌, set, Ok, Err, ap, refl, subst, sym, ◌∙◌}
+use Rattle.std.proofs.Common.{◌≡◌, set, Ok, Err, ap, subst, sym, ◌∙◌}
 use Rattle.frame_model.specs.Reading.{read_client}
 use Rattle.frame_model.specs.declared.frame.ClientFrame.TheVariants as client
 use Rattle.room_model.specs.Room.{after_frame}
@@ -8,11 +8,11 @@ use Rattle.room_core.specs.Steps.{client_at}
 use Rattle.room_core.specs.Values.{room_of, room_with}
 use Rattle.room_core.proofs.ClientLists.{as_read}
 use Rattle.room_core.proofs.Entered.{acknowledge_room}
-use Rattle.room_core.proofs.Leaves.{frame_step, unread_room, unread_told}
+use Rattle.room_core.proofs.Leaves.{frame_step, read_step, unread_room, unread_told}
 use Rattle.room_core.proofs.parts.Parts.frame.Goals as goal
 
-pub returns-in-Ok-Ack-clause-room : goal.returns-in-Ok-Ack-clause-room
-returns-in-Ok-Ack-clause-room c =
+pub returns-in-Some-clause-room : goal.returns-in-Some-clause-room
+returns-in-Some-clause-room c =
     let p = c.args.self.now in
     let cs = p.clients.items in
     let one = c.index_mut-client.result.now in
@@ -28,8 +28,7 @@ pub returns-in-Err-clause-outs : goal.returns-in-Err-clause-outs
 returns-in-Err-clause-outs c =
     let p = c.args.self.now in
     let bytes = c.args.bytes.now in
-    let one = c.in-Some.ensures in
-    let step = frame_step p.def p.criteria p.live p.shared p.places p.clients.items c.args.session c.requires.order.placed.distinct c.in-Some.at one.0 one.1 one.2 bytes (read_client bytes) refl c.requires.connected in
+    let step = read_step (room_of p) c.args.session bytes c.requires.connected in
     let gives = subst (λ bs. GivesFrame (Err c.in-Err.fault) (read_client bs)) c.as_slice.ensures c.in-Err.ensures in
     unread_told (room_of p) c.args.session (read_client bytes) (after_frame (room_of p) c.args.session bytes) step c.in-Err.fault c.unread.result gives c.unread.ensures
 
@@ -37,7 +36,6 @@ pub returns-in-Err-clause-room : goal.returns-in-Err-clause-room
 returns-in-Err-clause-room c =
     let p = c.args.self.now in
     let bytes = c.args.bytes.now in
-    let one = c.in-Some.ensures in
-    let step = frame_step p.def p.criteria p.live p.shared p.places p.clients.items c.args.session c.requires.order.placed.distinct c.in-Some.at one.0 one.1 one.2 bytes (read_client bytes) refl c.requires.connected in
+    let step = read_step (room_of p) c.args.session bytes c.requires.connected in
     let gives = subst (λ bs. GivesFrame (Err c.in-Err.fault) (read_client bs)) c.as_slice.ensures c.in-Err.ensures in
     unread_room (room_of p) c.args.session (read_client bytes) (after_frame (room_of p) c.args.session bytes) step c.in-Err.fault c.unread.result gives c.unread.ensures
