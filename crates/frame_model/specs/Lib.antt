@@ -3,3 +3,4 @@ pub mod PackData
 pub mod Packs
 pub mod Reading
 pub mod ServerReading
+pub mod Kinds

@@ -5,8 +5,10 @@ pub mod codes;
 pub mod fault;
 pub mod form;
 pub mod frame;
+pub mod kinds;
 pub mod pack;
 
 pub use fault::{FrameFault, PackFault};
 pub use frame::{ClientFrame, MsgKind, ServerFrame};
+pub use kinds::know_kind;
 pub use pack::{MOST_LEVELS, Pack, PackPairs, Packs};

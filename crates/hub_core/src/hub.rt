@@ -8,6 +8,7 @@ ghost use Rattle.hub_core.specs.Hubs.{Stands, hub_of};
 ghost use Rattle.hub_core.specs.Takes.{Takes, rules_of};
 
 use crate::parts::Parts;
+use frame_model::know_kind;
 use hub_model::{HubEvent, HubOuts};
 use lists::{Memory, Seq};
 use matchmaker::is_id;
@@ -175,15 +176,16 @@ impl<R: RoomLike> Parts<R> {
     }
 }
 
-// The texts that an event's command puts are UTF-8. It does nothing else than to say so.
+// The texts of an event's command and the names of its message kinds are UTF-8, and the numbers of its message kinds
+// have 32 bits. It does nothing else than to say so.
 fn know_event(event: &HubEvent)
     ensures { IsTrue (is_worded event.now) }
 {
-    if let HubEvent::Act {
-        act: Act::State(command),
-        ..
-    } = event
-    {
-        know_texts(command);
+    if let HubEvent::Act { act, .. } = event {
+        match act {
+            Act::State(command) => know_texts(command),
+            Act::Send(_, kind, _) | Act::Raw(_, kind, _) | Act::ToAll(kind, _) => know_kind(kind),
+            _ => {}
+        }
     }
 }

@@ -11,8 +11,6 @@ use Rattle.std.proofs.lemmas.Option.{slice_get-get_or}
 use Rattle.lists.proofs.RisingLaws.{Contains-find}
 use Rattle.lists.proofs.SameBytes.{same_bytes, bytes_eq_self}
 use Rattle.room_model.specs.declared.definition.RoomDef.{RoomDef}
-use Rattle.room_model.specs.declared.event.Act.{Act}
-use Rattle.room_model.specs.declared.event.Act.TheVariants as act
 use Rattle.room_model.specs.declared.event.RoomEvent.{RoomEvent}
 use Rattle.room_model.specs.declared.event.RoomEvent.TheVariants as happened
 use Rattle.room_model.specs.Definitions.{is_room_def}
@@ -108,10 +106,6 @@ of_conn h conn r x differ steps there may words = by_conn (conn_of h conn) refl
     by_conn None found = inl refl
     by_conn (Some c) found = one_if r.room (is_named c.room r) (x c.session) (λ named. may c.session (conn_connected h c conn r differ steps found there named)) (words c.session)
 
-act_worded : (a : Act) → is_worded_act a ≡ true → is_worded_event (happened.Act a) ≡ true
-act_worded (act.State c) h = h
-act_worded a h = refl
-
 pub few_dealt : (rules : Rules) (h : HubValue) (e : HubEvent) (r : HubRoom) → h.now < 2 ^ 53 → list_all is_room_def h.defs ≡ true → RoomsDiffer h.rooms
     → ((room session : List ℕ) → list_any (is_conn_for room session) h.conns ≡ connected_at h.rooms room session) → may_come e ≡ true
     → Contains (rooms_for rules h e) r → r.def < length h.defs → Few r.room (deals rules h e r)
@@ -139,5 +133,5 @@ few_dealt rules h (Lost conn) r early forms differ steps come there def =
     of_conn h conn r (λ s. happened.Lost s h.now) differ steps (subst (λ rs. Contains rs r) (append-nil h.rooms) there) (λ s is. and_from (is_moment h.now) (is_connected_in r.room s) (now_fits h.now early) is) (λ s. refl)
 few_dealt rules h (Acted room a) r early forms differ steps come there def =
     let both = and_parts (may_act a) (is_worded_act a) come in
-    one_if r.room (is_named room r) (happened.Act a) (λ t. both.0) (act_worded a both.1)
+    one_if r.room (is_named room r) (happened.Act a) (λ t. both.0) both.1
 few_dealt rules h (Tick room) r early forms differ steps come there def = one_if r.room (is_named room r) happened.Tick (λ t. refl) refl

@@ -7,8 +7,11 @@ use Rattle.state_model.specs.declared.row.Row.TheVariants.{Struct}
 use Rattle.state_model.specs.declared.row.RowEntry.{RowEntry}
 use Rattle.state_model.specs.declared.command.Command.TheVariants as command
 use Rattle.state_model.proofs.Examples.{flat}
+use Rattle.wire_model.proofs.Opened.{reading as state_reading}
 use Rattle.frame_model.proofs.Opened.{reading}
 use Rattle.room_model.specs.declared.definition.RoomDef.{RoomDef}
+use Rattle.frame_model.specs.declared.frame.MsgKind.TheVariants as kind
+use Rattle.room_model.specs.declared.event.Act.{Act}
 use Rattle.room_model.specs.declared.event.Act.TheVariants as act
 use Rattle.room_model.specs.Room.{room_step}
 use Rattle.hub_model.specs.declared.event.HubEvent.{HubEvent}
@@ -17,7 +20,9 @@ use Rattle.hub_model.specs.Requests.{Said, read_request}
 use Rattle.hub_model.specs.HubValues.{HubRoom, new_hub}
 use Rattle.hub_model.specs.HubStep.{Rules}
 use Rattle.life_model.specs.Entries.{Entry, Asked, Opened, Framed, Ticked, Dropped, Kicked, Lapsed, Sending, Frame, Closing}
+use Rattle.life_model.specs.Followed.{takes_given, client_given}
 use Rattle.life_model.specs.HubLives.{HubLife, HubRun, hub_run, is_live}
+use Rattle.life_model.specs.HubPromises.{may_come}
 use Rattle.life_model.specs.Sent.{sent}
 
 -- rooms of two places, whose seats are kept for 20 seconds, and of one
@@ -155,6 +160,19 @@ they_saw : map (λ (l : HubLife). l.view) (run (coming ++ (playing ++ going))).l
 unfolding digits reading percent_decode
 they_saw = refl
 
+-- a client that follows a life refuses nothing of all that it was given
+they_take_all : map (λ (l : HubLife). takes_given flat l.outputs) (run (coming ++ (playing ++ going))).lives ≡ true ∷ true ∷ true ∷ []
+unfolding digits reading state_reading percent_decode
+they_take_all = refl
+
+-- and while it is live has the rows that it may see; the third had no full state
+abbrev followed_rows : HubLife → List RowEntry
+followed_rows l = (client_given flat l.outputs).rows
+
+they_follow : map followed_rows (run (coming ++ playing)).lives ≡ five ∷ five ∷ root ∷ []
+unfolding digits reading state_reading percent_decode
+they_follow = refl
+
 -- the rooms are gone
 no_room_is_left : map (λ (r : HubRoom). r.id) (run (coming ++ playing)).hub.rooms ∷ map (λ (r : HubRoom). r.id) (run (coming ++ (playing ++ going))).hub.rooms ∷ [] ≡ (r1 ∷ r2 ∷ []) ∷ [] ∷ []
 unfolding digits reading percent_decode
@@ -168,3 +186,30 @@ ids_come_again :
     map tells_all x.lives) ≡ (((r1, s1), false), []) ∷ (((r1, s1), true), join t1 ∷ []) ∷ []
 unfolding digits reading percent_decode
 ids_come_again = refl
+
+-- ---- messages
+
+-- an act before the first client's full state, and again behind it
+abbrev told : Act → List HubEvent
+told a = event.Frame 2 (10 ∷ []) ∷ event.Act r1 a ∷ event.Tick r1 ∷ event.Act r1 a ∷ []
+
+-- of a message to all the first waits for the full state, and the next is sent at once
+abbrev hi : List ℕ
+hi = 13 ∷ 162 ∷ 104 ∷ 105 ∷ 192 ∷ []
+
+they_are_told : map (λ (l : HubLife). l.outputs) (run (coming ++ told (act.ToAll (kind.Name (codes "hi")) (192 ∷ [])))).lives ≡ (join t1 ∷ Frame (14 ∷ []) ∷ Frame hi ∷ Frame hi ∷ []) ∷ (join t2 ∷ []) ∷ [] ∷ []
+unfolding digits reading percent_decode
+they_are_told = refl
+
+-- both are taken
+messages_are_taken : map (λ (l : HubLife). takes_given flat l.outputs) (run (coming ++ told (act.ToAll (kind.Name (codes "hi")) (192 ∷ [])))).lives ≡ true ∷ true ∷ true ∷ []
+unfolding digits reading state_reading percent_decode
+messages_are_taken = refl
+
+-- none comes about a name that isn't UTF-8 or a number that isn't one of 32 bits, which no program has
+abbrev act_comes : Act → Bool
+act_comes a = may_come (event.Act r1 a)
+
+no_other_kinds : map act_comes (act.Send s1 (kind.Name (255 ∷ [])) [] ∷ act.Raw s1 (kind.Name (255 ∷ [])) [] ∷ act.ToAll (kind.Num (pos 2147483648)) [] ∷ act.Send s1 (kind.Num (pos 2147483647)) [] ∷ []) ≡ false ∷ false ∷ false ∷ true ∷ []
+unfolding reading
+no_other_kinds = refl

@@ -1,5 +1,5 @@
 -- Hubs keep their promises, over every list of events that may come.
-use Rattle.std.proofs.Common.{◌≡◌, ℕ, ◌&&◌, true, false, List, [], ◌∷◌, take, Option, Some, None, is_some, Ok, Result, refl, sym, ap, ◌∙◌, arith}
+use Rattle.std.proofs.Common.{◌≡◌, ℕ, ◌&&◌, All, true, false, List, [], ◌∷◌, take, Option, Some, None, is_some, Ok, Result, refl, sym, ap, ◌∙◌, arith}
 use Rattle.std.specs.Prelude.{Contains, option_and_then}
 use Rattle.std.specs.List.{fold, list_all}
 use Rattle.std.proofs.lemmas.Bool.{and_parts}
@@ -7,29 +7,38 @@ use Rattle.std.proofs.lemmas.List.Elements.{All-nil, All-contains, All-take}
 use Rattle.std.proofs.lemmas.List.Sums.{AllPass-from_list_all, list_all-from_AllPass}
 use Rattle.schema_model.specs.Classes.{Schema, is_kept}
 use Rattle.wire_model.specs.Decoded.{seen}
+use Rattle.state_model.specs.declared.row.RowEntry.{RowEntry}
 use Rattle.room_model.specs.declared.definition.RoomDef.{RoomDef}
 use Rattle.room_model.specs.Definitions.{is_room_def}
 use Rattle.room_model.specs.Sessions.{session_of}
+use Rattle.room_model.specs.Room.{RoomValue}
 use Rattle.hub_model.specs.declared.event.HubEvent.{HubEvent}
 use Rattle.hub_model.specs.declared.request.AskFault.{AskFault}
 use Rattle.hub_model.specs.declared.request.Request.{Request}
 use Rattle.hub_model.specs.HubValues.{HubRoom, is_named, room_of, new_hub}
 use Rattle.life_model.specs.Lives.{is_at, is_live_stage}
 use Rattle.life_model.specs.LatestFrames.{latest_frames}
+use Rattle.life_model.specs.Followed.{takes_given, client_given}
+use Rattle.life_model.specs.RoomLives as room_lives
 use Rattle.life_model.specs.Sent.{sent}
 use Rattle.life_model.specs.HubLives.{HubLife, HubRun, in_room, session_in, run_step, hub_run, is_live}
 use Rattle.life_model.specs.HubPromises.{rules_of, may_come, CanRun, HubKeeps, HubsKeep, HubsGiveEqualBytes}
-use Rattle.room_promises.proofs.GoodLives.{GoesOn}
+use Rattle.room_promises.proofs.GoodLives.{GoesOn, GoodLife}
+use Rattle.room_promises.proofs.Follows.{Followed}
+use Rattle.room_promises.proofs.EventsFollow.{life_follows}
 use Rattle.room_promises.proofs.RoomsKept.{life_sees}
 use Rattle.lists.proofs.SameBytes.{same_bytes}
 use Rattle.hub_laws.proofs.Different.{found_in, found_passes}
 use Rattle.hub_promises.proofs.GoodHubs.{GoodPlace, GoodEnd, GoodHub}
 use Rattle.hub_promises.proofs.HubSteps.{step_good}
+use Rattle.hub_promises.proofs.LivesFollow.{step_follows}
 
 -- ---- a good hub keeps the promises
 
-life_sees_here : (schema : Schema) (x : HubRun) (l : HubLife) → GoodHub schema x → Contains x.lives l → is_live x.hub l ≡ true → seen schema (latest_frames l.outputs) ≡ Ok l.view
-life_sees_here schema x l g there live = by_room (room_of x.hub l.room) refl
+-- what holds of a good life of a room that is live holds of a live life
+life_here : (schema : Schema) (x : HubRun) (l : HubLife) → GoodHub schema x → Contains x.lives l → is_live x.hub l ≡ true → (P : Type 0)
+    → ((rows : List RowEntry) (r : RoomValue) → GoodLife schema rows r.sessions (in_room l) → room_lives.is_live r (in_room l) ≡ true → P) → P
+life_here schema x l g there live P shows = by_room (room_of x.hub l.room) refl
   where
     lasts : l.lasts ≡ true
     lasts = (and_parts l.lasts (is_at is_live_stage (session_in x.hub l.room l.session)) live).0
@@ -37,29 +46,46 @@ life_sees_here schema x l g there live = by_room (room_of x.hub l.room) refl
     end : GoodEnd schema x.hub l
     end = All-contains (GoodEnd schema x.hub) x.lives l g.lives there
 
-    by_room : (o : Option HubRoom) → room_of x.hub l.room ≡ o → seen schema (latest_frames l.outputs) ≡ Ok l.view
+    by_room : (o : Option HubRoom) → room_of x.hub l.room ≡ o → P
     by_room None found = (let some = end.there lasts in let empty : is_some (room_of x.hub l.room) ≡ false = ap is_some found in cc)
     by_room (Some r) found =
         let place = All-contains (GoodPlace schema x.hub.defs x.lives) x.hub.rooms r g.rooms (found_in (is_named l.room) x.hub.rooms r found) in
         let on : GoesOn schema place.last.rows r.room.sessions (in_room l) = All-contains (λ (l : HubLife). l.lasts ≡ true → l.room ≡ r.id → GoesOn schema place.last.rows r.room.sessions (in_room l)) x.lives l place.goes_on there lasts
         (sym (same_bytes r.id l.room (found_passes (is_named l.room) x.hub.rooms r found))) in
-        life_sees schema place.last.rows (record { room = r.room; lives = [] }) (in_room l) (record { equal = end.equal; goes_on = λ h. on })
+        shows place.last.rows r.room (record { equal = end.equal; goes_on = λ h. on })
         (sym (ap (λ o. l.lasts && is_at is_live_stage (option_and_then (λ (r : HubRoom). session_of r.room.sessions l.session) o)) found) ∙ live)
 
-good_keeps : (schema : Schema) (x : HubRun) → GoodHub schema x → HubKeeps schema x
-good_keeps schema x g = record {
-  sees = λ l there live. life_sees_here schema x l g there live;
-  equal = λ l there. (All-contains (GoodEnd schema x.hub) x.lives l g.lives there).equal;
+-- each life's record is followed
+abbrev AreFollowed : Schema → HubRun → Type 0
+AreFollowed schema x = All (λ (l : HubLife). Followed schema l.entries) x.lives
+
+good_keeps : (schema : Schema) (x : HubRun) → GoodHub schema x → AreFollowed schema x → HubKeeps schema x
+good_keeps schema x g all = record {
+  sees = λ l there live. life_here schema x l g there live (seen schema (latest_frames l.outputs) ≡ Ok l.view) (λ rows r good is. life_sees schema rows (record { room = r; lives = [] }) (in_room l) good is);
+  taken = λ l there. ap (takes_given schema) (equal l there) ∙ (followed l there).taken;
+  follows = λ l there live. life_here schema x l g there live ((client_given schema l.outputs).rows ≡ l.view) (λ rows r good is. life_follows schema rows r (in_room l) good (followed l there) is);
+  equal = equal;
   places = λ r there. (All-contains (GoodPlace schema x.hub.defs x.lives) x.hub.rooms r g.rooms there).room.within;
 }
+  where
+    equal : (l : HubLife) → Contains x.lives l → l.outputs ≡ sent schema l.entries
+    equal l there = (All-contains (GoodEnd schema x.hub) x.lives l g.lives there).equal
+
+    followed : (l : HubLife) → Contains x.lives l → Followed schema l.entries
+    followed l there = All-contains (λ (l : HubLife). Followed schema l.entries) x.lives l all there
 
 -- ---- every run
 
-runs_good : (read : List RoomDef → List ℕ → List ℕ → Result Request AskFault) (schema : Schema) (x : HubRun) (es : List HubEvent) → is_kept schema ≡ true → list_all may_come es ≡ true → GoodHub schema x → GoodHub schema (fold (run_step (rules_of read)) x es)
+-- a good hub whose lives are followed
+record Goes (schema : Schema) (x : HubRun) : Type 0 where
+  good : GoodHub schema x
+  followed : AreFollowed schema x
+
+runs_good : (read : List RoomDef → List ℕ → List ℕ → Result Request AskFault) (schema : Schema) (x : HubRun) (es : List HubEvent) → is_kept schema ≡ true → list_all may_come es ≡ true → Goes schema x → Goes schema (fold (run_step (rules_of read)) x es)
 runs_good read schema x [] kept come g = g
 runs_good read schema x (e ∷ es) kept come g =
     let c = and_parts (may_come e) (list_all may_come es) come in
-    runs_good read schema (run_step (rules_of read) x e) es kept c.1 (step_good read schema x e kept c.0 g)
+    runs_good read schema (run_step (rules_of read) x e) es kept c.1 (record { good = step_good read schema x e kept c.0 g.good; followed = step_follows read schema x e kept c.0 g.good g.followed })
 
 new_good : (schema : Schema) (process : List ℕ) (defs : List RoomDef) → list_all is_room_def defs ≡ true → GoodHub schema (record { hub = new_hub schema process defs; lives = [] })
 new_good schema process defs forms = record {
@@ -75,8 +101,8 @@ new_good schema process defs forms = record {
 
 run_keeps : (read : List RoomDef → List ℕ → List ℕ → Result Request AskFault) (schema : Schema) (process : List ℕ) (defs : List RoomDef) (events : List HubEvent) → CanRun schema defs events → HubKeeps schema (hub_run (rules_of read) (new_hub schema process defs) events)
 run_keeps read schema process defs events can =
-    good_keeps schema (hub_run (rules_of read) (new_hub schema process defs) events)
-    (runs_good read schema (record { hub = new_hub schema process defs; lives = [] }) events can.schema_kept can.come (new_good schema process defs can.forms))
+    let g = runs_good read schema (record { hub = new_hub schema process defs; lives = [] }) events can.schema_kept can.come (record { good = new_good schema process defs can.forms; followed = All-nil _ }) in
+    good_keeps schema (hub_run (rules_of read) (new_hub schema process defs) events) g.good g.followed
 
 pub hubs_keep : HubsKeep
 hubs_keep read schema process defs events can n =

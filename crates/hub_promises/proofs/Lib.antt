@@ -10,5 +10,6 @@ pub mod Moves
 pub mod GoodHubs
 pub mod LivesMove
 pub mod HubSteps
+pub mod LivesFollow
 pub mod HubsKept
 mod HubLifeRows

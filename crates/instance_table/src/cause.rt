@@ -41,7 +41,7 @@ pub fn is_no_field(
     ensures { result ≡ is_no_field schema.now command.now (option_map row_of (option_copied body.entry)) }
 {
     match (command, body) {
-        (Command::Make(class), _) => class.0 as usize >= schema.classes.len(),
+        (Command::Make(class), _) => class.0 as usize >= schema.classes().len(),
         (Command::MakeFor(home), _) => !is_collection(schema, *home),
         (Command::Put(..), Some(Body::Struct(..))) => wanted.is_none(),
         (Command::Unset(_, field), Some(Body::Struct(class, _))) => field_wants(

@@ -34,7 +34,7 @@ pub fn made(alloc: Global, schema: &Schema, command: &Command) -> Result<Option<
     ensures { IfOk result (λ b. b ≡ option_map (λ r. body_from r (Some 0)) (made_row schema.now command.now)) }
 {
     match command {
-        Command::Make(class) => if (class.0 as usize) < schema.classes.len() {
+        Command::Make(class) => if (class.0 as usize) < schema.classes().len() {
             Ok(Some(Body::Struct(*class, Rising::new(alloc))))
         } else {
             Ok(None)

@@ -17,6 +17,7 @@ use Rattle.hub_model.specs.HubValues.{HubRoom, new_hub}
 use Rattle.hub_model.specs.HubStep.{Rules}
 use Rattle.life_model.specs.Sent.{sent}
 use Rattle.life_model.specs.LatestFrames.{latest_frames}
+use Rattle.life_model.specs.Followed.{takes_given, client_given}
 use Rattle.life_model.specs.HubLives.{HubLife, HubRun, hub_run, is_live}
 
 -- ---- events that may come
@@ -32,6 +33,10 @@ pub record HubKeeps (schema : Schema) (x : HubRun) : Type 0 where
   -- decoding a live client's state frames from its latest full state on gives exactly its permitted rows at its room's
   -- last tick, and none of them is refused
   pub sees : (l : HubLife) → Contains x.lives l → is_live x.hub l ≡ true → seen schema (latest_frames l.outputs) ≡ Ok l.view
+  -- a client that follows all that a life is given, from its first connection on, refuses no frame of it; while the life is
+  -- live the client's rows are those that it may see
+  pub taken : (l : HubLife) → Contains x.lives l → takes_given schema l.outputs ≡ true
+  pub follows : (l : HubLife) → Contains x.lives l → is_live x.hub l ≡ true → (client_given schema l.outputs).rows ≡ l.view
   -- what a life's connections were given is what its record is sent
   pub equal : (l : HubLife) → Contains x.lives l → l.outputs ≡ sent schema l.entries
   -- the seats, reservations and kept seats of a room together are at most the places that it has then

@@ -1,8 +1,9 @@
+pub mod Clients
 pub mod Entries
-pub mod Sent
-pub mod Lives
-pub mod RoomLives
-pub mod LatestFrames
+pub mod Followed
 pub mod HubLives
 pub mod HubPromises
-pub mod Clients
+pub mod LatestFrames
+pub mod Lives
+pub mod RoomLives
+pub mod Sent

@@ -45,6 +45,15 @@ impl<T: Keyed> Rising<T> {
         }
     }
 
+    /// An empty list with room for so many items, which take no more memory.
+    pub fn with_room(alloc: Global, room: usize) -> Result<Self, Memory>
+        ensures { IfOk result (λ list. list ≡ []) }
+    {
+        Ok(Rising {
+            items: Vec::with_capacity(alloc, room)?,
+        })
+    }
+
     pub fn as_slice(&self) -> &[T]
         ensures { result.now ≡ self.now }
     {

@@ -58,7 +58,7 @@ fn has_kind(schema: &Schema, row: &Row) -> bool
     ensures { result ≡ has_kind schema.now row.now }
 {
     match row {
-        Row::Struct(class, _) => (class.0 as usize) < schema.classes.len(),
+        Row::Struct(class, _) => (class.0 as usize) < schema.classes().len(),
         Row::Map(home, _) => matches!(shape_of(schema, home), Some(Shape::Map(_))),
         Row::Array(home, _) => matches!(shape_of(schema, home), Some(Shape::Array(_))),
         Row::Set(home, _) => matches!(shape_of(schema, home), Some(Shape::Set(_))),

@@ -216,7 +216,7 @@ fn read_class(schema: &Schema, bytes: &[u8], at: usize) -> Result<(TypeNum, usiz
     let (number, next) = read_number(bytes, at)?;
     match u32::try_from(number) {
         Ok(class) => {
-            if (class as usize) < schema.classes.len() {
+            if (class as usize) < schema.classes().len() {
                 Ok((TypeNum(class), next))
             } else {
                 Err(OpFault::UnknownType(at))

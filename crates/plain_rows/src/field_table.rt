@@ -48,7 +48,7 @@ pub fn view_fields(alloc: Global, schema: &Schema) -> Result<ViewFields, Memory>
     ensures { IfOk result (λ table. table ≡ all_view_fields schema.now) }
 {
     let mut table = Seq::new(alloc);
-    for class in schema.classes.as_slice() {
+    for class in schema.classes().as_slice() {
         let fields = next_fields(alloc, table.as_slice(), class)?;
         table.push(fields)?;
     }

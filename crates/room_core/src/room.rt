@@ -136,7 +136,7 @@ impl RoomLike for Room {
             criteria: copy_texts(alloc, criteria)?,
             none: Members::new(alloc)?,
             shared: ViewCounts::new(alloc, schema)?,
-            live: LiveState::new(alloc, schema.copy(alloc)?)?,
+            live: LiveState::new(alloc, schema.copy()?)?,
             places: SeatLedger::new(alloc, def.max)?,
             clients: Vec::new(alloc),
         };

@@ -1,6 +1,7 @@
 -- Acts that may come: within the limits, and with texts that are UTF-8. Ours.
 use Rattle.std.specs.Prelude.{Bool, true, length, nat_le, nat_lt}
 use Rattle.state_model.specs.Worded.{is_worded_command}
+use Rattle.frame_model.specs.Kinds.{is_kept_kind}
 use Rattle.frame_model.specs.declared.frame.MsgKind.{MsgKind}
 use Rattle.frame_model.specs.declared.frame.MsgKind.TheVariants as kind
 use Rattle.room_model.specs.Limits.{longest_time, kind_bound}
@@ -20,7 +21,11 @@ may_act (act.ToAll kind payload) = is_short_kind kind
 may_act (act.Keep session ms) = nat_le ms longest_time
 may_act a = true
 
--- the texts that an act's command puts are UTF-8, as those of every command are that a program has
+-- the texts of an act, which its command puts or which name a message kind, are UTF-8, and a kind's number is one of 32 bits,
+-- as those of every act are that a program has
 abbrev pub is_worded_act : Act → Bool
 is_worded_act (act.State command) = is_worded_command command
+is_worded_act (act.Send session kind payload) = is_kept_kind kind
+is_worded_act (act.Raw session kind payload) = is_kept_kind kind
+is_worded_act (act.ToAll kind payload) = is_kept_kind kind
 is_worded_act a = true

@@ -42,8 +42,8 @@ impl Act {
     }
 }
 
-// A message may be about this.
-fn is_short_kind(kind: &MsgKind) -> bool
+/// Whether a message may be about this: a number, or a name shorter than `KIND_BOUND` bytes.
+pub fn is_short_kind(kind: &MsgKind) -> bool
     ensures { result ≡ is_short_kind kind.now }
 {
     match kind {

@@ -8,7 +8,7 @@ pub mod refusal;
 pub mod seat;
 
 pub use definition::{Defs, Names, RoomDef, Texts, Words, copy_texts};
-pub use event::{Act, RoomEvent, RoomOut, RoomOuts, Stage};
+pub use event::{Act, RoomEvent, RoomOut, RoomOuts, Stage, is_short_kind};
 pub use limits::{KIND_BOUND, LONGEST_TIME, MOMENT_BOUND, MOST_FILTERS, MOST_PLACES, MOST_QUEUED};
 pub use refusal::Refusal;
 pub use seat::{Seat, SeatEntry, SeatFault};

@@ -16,6 +16,9 @@ pub mod StateFacts
 pub mod RoomSteps
 pub mod TickBytes
 pub mod RunSteps
+pub mod Turns
+pub mod Follows
+pub mod EventsFollow
 pub mod RoomsKept
 pub mod Tokens
 pub mod Waiting

@@ -102,31 +102,37 @@ module _ (schema : Schema) (before after : List RowEntry) (d : TickDecodes schem
         decodes = ap (seen schema) (full_latest outputs bytes s.queue m) ∙ d.whole now;
       }
 
+  -- the bytes of a live client's patch
+  abbrev patch_of : Session → List ℕ
+  patch_of s = state_frame schema (shared schema before) s.permitted (shared schema after) (seen_by s)
+
+  -- they lead to what it may see
+  pub patch_leads : (s : Session) (outputs : List Sending) (view : List RowEntry) → Sees schema before (held (at_stage Live s)) outputs view → decoded schema (patch_of s) s.permitted ≡ Ok (seen_by s)
+  patch_leads s outputs view was =
+      subst (λ (p : List RowEntry). decoded schema (state_frame schema (shared schema before) p (shared schema after) (seen_by s)) p ≡ Ok (seen_by s)) (sym was.is_permitted)
+      (d.between s.members.last (live_members after s.members).now)
+
+  -- without a frame the rows stay as they are
+  pub patch_stays : (s : Session) (outputs : List Sending) (view : List RowEntry) → Sees schema before (held (at_stage Live s)) outputs view
+      → has_operation schema (shared schema before) s.permitted (shared schema after) (seen_by s) ≡ false → s.permitted ≡ seen_by s
+  patch_stays s outputs view was none =
+      sym was.is_free
+      ∙ subst (λ (p : List RowEntry). has_operation schema (shared schema before) p (shared schema after) (seen_by s) ≡ false → freed p ≡ seen_by s) (sym was.is_permitted)
+      (d.silent s.members.last (live_members after s.members).now) none
+
   -- and one that is live its patch
   sees_patch : (s : Session) (outputs : List Sending) (view : List RowEntry) → Sees schema before (held (at_stage Live s)) outputs view → Sees schema after (held (behind Live s)) (outputs ++ map Frame (frames_of Live s)) (seen_by s)
-  sees_patch s outputs view was = record { is_permitted = refl; is_view = refl; is_free = decoded_free schema bytes s.permitted (seen_by s) leads; decodes = by_operation (has_operation schema (shared schema before) s.permitted (shared schema after) (seen_by s)) refl }
+  sees_patch s outputs view was = record { is_permitted = refl; is_view = refl; is_free = decoded_free schema (patch_of s) s.permitted (seen_by s) leads; decodes = by_operation (has_operation schema (shared schema before) s.permitted (shared schema after) (seen_by s)) refl }
     where
-      bytes : List ℕ
-      bytes = state_frame schema (shared schema before) s.permitted (shared schema after) (seen_by s)
-
-      leads : decoded schema bytes s.permitted ≡ Ok (seen_by s)
-      leads =
-          subst (λ (p : List RowEntry). decoded schema (state_frame schema (shared schema before) p (shared schema after) (seen_by s)) p ≡ Ok (seen_by s)) (sym was.is_permitted)
-          (d.between s.members.last (live_members after s.members).now)
-
-      -- without a frame the rows stay as they are
-      stays : has_operation schema (shared schema before) s.permitted (shared schema after) (seen_by s) ≡ false → s.permitted ≡ seen_by s
-      stays none =
-          sym was.is_free
-          ∙ subst (λ (p : List RowEntry). has_operation schema (shared schema before) p (shared schema after) (seen_by s) ≡ false → freed p ≡ seen_by s) (sym was.is_permitted)
-          (d.silent s.members.last (live_members after s.members).now) none
+      leads : decoded schema (patch_of s) s.permitted ≡ Ok (seen_by s)
+      leads = patch_leads s outputs view was
 
       by_operation : (b : Bool) → has_operation schema (shared schema before) s.permitted (shared schema after) (seen_by s) ≡ b
-          → seen schema (latest_frames (outputs ++ map Frame (cond b (server_bytes (server.Patch bytes) ∷ []) []))) ≡ Ok (seen_by s)
+          → seen schema (latest_frames (outputs ++ map Frame (cond b (server_bytes (server.Patch (patch_of s)) ∷ []) []))) ≡ Ok (seen_by s)
       by_operation true is =
-          ap (seen schema) (patch_latest outputs bytes) ∙ (seen_more schema (latest_frames outputs) (15 ∷ bytes) ∙ (ap (λ r. after_frame schema r (15 ∷ bytes)) was.decodes ∙ leads))
+          ap (seen schema) (patch_latest outputs (patch_of s)) ∙ (seen_more schema (latest_frames outputs) (15 ∷ patch_of s) ∙ (ap (λ r. after_frame schema r (15 ∷ patch_of s)) was.decodes ∙ leads))
       by_operation false is =
-          ap (λ os. seen schema (latest_frames os)) (append-nil outputs) ∙ (was.decodes ∙ ap Ok (stays is))
+          ap (λ os. seen schema (latest_frames os)) (append-nil outputs) ∙ (was.decodes ∙ ap Ok (patch_stays s outputs view was is))
 
   pub fits_tick : (st : Stage) (s : Session) (entries : Record) (outputs : List Sending) (view : List RowEntry) → Fits schema before (held (at_stage st s)) entries outputs view
       → Fits schema after (held (behind st s)) (entries ++ entries_at st s) (outputs ++ map Frame (frames_of st s)) (seen_by s)

@@ -79,7 +79,7 @@ module _ (before : List RowEntry) (r : RoomValue) (l : RoomLife) (g : GoesOn r.s
       ap (option_map (λ (s : Session). (shared r.schema (ticked_rows r), permitted r.schema (ticked_rows r) s.members.now))) now
       ∙ ap (λ ps. Some (shared r.schema (ticked_rows r), permitted r.schema (ticked_rows r) ps)) (ticked_now clean.stage (sees_now r clean) clean)
 
-  entries_now : room_entries r event.Tick after.0 l.session ≡ cond (sees_ticks g.session.stage) (Ticked (shared r.schema (ticked_rows r)) (sees_now r clean) ∷ []) []
+  pub entries_now : room_entries r event.Tick after.0 l.session ≡ cond (sees_ticks g.session.stage) (Ticked (shared r.schema (ticked_rows r)) (sees_now r clean) ∷ []) []
   entries_now = ap₂ (λ o p. cond (is_at sees_ticks o) (tick_entries p) []) g.there rows_now
 
   outs_now : flat_map (given_by l.session) after.1 ≡ map Frame (frames_now r (shared r.schema before) clean)

@@ -9,9 +9,9 @@ use Rattle.life_model.specs.Clients.{Client}
 use Rattle.life_model.specs.declared.client.ClientFault.{ClientFault}
 use Rattle.text_model.specs.declared.schedule.Print.{Print}
 use Rattle.text_model.specs.declared.schedule.Schedule.{Schedule}
-use Rattle.text_model.specs.OutLines.{IsPrintText, read_print_text}
+use Rattle.text_model.specs.OutLines.{read_print_text}
 use Rattle.text_model.specs.RowLines.{rows_text}
-use Rattle.text_model.specs.Schedules.{Fault, IsScheduleText, read_schedule_text, schedule_text}
+use Rattle.text_model.specs.Schedules.{Fault, read_schedule_text, schedule_text}
 use Rattle.text_model.proofs.PrintLaws.{print_is_read, read_is_print}
 use Rattle.text_model.proofs.ScheduleLaws.{schedule_is_read, read_is_schedule}
 use Rattle.room_server.proofs.PlayedLaws.{schedule_keeps}
@@ -154,7 +154,7 @@ replayed_text l0 l1 t0 t1 text read ends (short, (s, is)) =
       short = few;
       read = subst (λ t. ReadsAll l0 l1 t) is.1 (read.1 short);
       took = subst (λ (a : Answer). Takes t0 t1 a.output) answer ends.1;
-      promises = schedule_keeps s is.0 few;
+      promises = schedule_keeps s is.0;
     }
 
 replayed : (l0 l1 t0 t1 : Option (List ℕ)) → ReadEnds Replay l0 l1 t0 t1 Done → IsReplayed l0 l1 t0 t1

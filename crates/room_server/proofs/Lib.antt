@@ -1,6 +1,5 @@
 pub mod WriteLaws
 pub mod PlayLaws
-pub mod LineLengths
 pub mod PlayedLaws
 pub mod LoadLaws
 pub mod EndingLaws

@@ -1,5 +1,5 @@
 -- The generated schedule can be played.
-use Rattle.std.proofs.Common.{◌≡◌, ◌<◌, ◌&&◌, ℕ, zero, suc, ◌+◌, ◌%◌, Bool, true, false, List, [], ◌∷◌, ◌++◌, refl, ap, ◌∙◌, arith, cond, codes}
+use Rattle.std.proofs.Common.{◌≡◌, ◌&&◌, ℕ, zero, suc, ◌+◌, ◌%◌, Bool, true, false, List, [], ◌∷◌, ◌++◌, refl, arith, cond}
 use Rattle.std.specs.Prelude.{◌==◌, ◌/◌}
 use Rattle.std.specs.List.{list_all}
 use Rattle.std.proofs.lemmas.Bool.{and_from}
@@ -8,7 +8,7 @@ use Rattle.hub_core.specs.Held.{may_take}
 use Rattle.hub_model.specs.declared.event.HubEvent.{HubEvent}
 use Rattle.hub_model.specs.declared.event.HubEvent.TheVariants.{Lost, Tick}
 use Rattle.hub_model.specs.Ids.{is_id, is_id_byte}
-use Rattle.load_maker.specs.Generated.{after_move, after_round, again, conn_before, digit, dropped_or_returned, game_made, generated, gold_given, most_moves, most_players, most_things, moved, player_made, return_id, returned_in, room_id, root_made, round_from, rounds_from, seat_of, session_id, thing_made, thing_moved, things_moved, token_id, up_to}
+use Rattle.load_maker.specs.Generated.{after_move, after_round, again, conn_before, digit, dropped_or_returned, game_made, generated, gold_given, most_moves, most_players, most_things, player_made, return_id, returned_in, room_id, root_made, round_from, rounds_from, seat_of, session_id, thing_made, thing_moved, things_moved, token_id, up_to}
 use Rattle.room_server.specs.Plays.{CanPlay}
 
 -- ---- lists of events that are taken

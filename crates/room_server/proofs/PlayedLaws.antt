@@ -1,17 +1,18 @@
 -- Every schedule that has a text can be played, and the three promises hold of its events.
-use Rattle.std.proofs.Common.{◌≡◌, ◌≤◌, ◌<◌, ◌^◌, ◌&&◌, ◌||◌, not, ℕ, zero, suc, Bool, true, false, List, [], ◌∷◌, length, map, take, Option, Some, None, refl, sym, ap, ap₂, subst, ◌∙◌, arith, nat_le, nat_lt, lt-ltb}
+use Rattle.std.proofs.Common.{◌≡◌, ◌&&◌, ◌||◌, not, ℕ, zero, suc, true, List, [], ◌∷◌, length, map, take, Option, Some, None, refl, sym, ap, ap₂, subst, ◌∙◌, nat_le}
 use Rattle.std.specs.Prelude.{IfSome}
 use Rattle.std.specs.List.{list_all, list_any}
 use Rattle.std.specs.Str.{bytes_eq, is_utf8}
 use Rattle.std.proofs.lemmas.Bool.{and_parts, and_from}
+use Rattle.frame_model.specs.Kinds.{is_kept_kind}
 use Rattle.frame_model.specs.declared.frame.MsgKind.{MsgKind}
 use Rattle.frame_model.specs.declared.frame.MsgKind.TheVariants as kind
-use Rattle.hub_core.specs.Held.{are_hub_defs, may_take, most_defs, names_differ}
+use Rattle.hub_core.specs.Held.{may_take, most_defs, names_differ}
 use Rattle.hub_model.specs.declared.event.HubEvent.{HubEvent}
 use Rattle.hub_model.specs.declared.event.HubEvent.TheVariants as event
 use Rattle.hub_model.specs.Requests.{read_request}
 use Rattle.hub_promises.proofs.HubsKept.{hubs_keep}
-use Rattle.life_model.specs.HubPromises.{CanRun, HubKeeps, may_come}
+use Rattle.life_model.specs.HubPromises.{HubKeeps, may_come}
 use Rattle.life_model.specs.HubLives.{hub_run}
 use Rattle.matchmaker.specs.Bodies.{said_by}
 use Rattle.room_model.specs.Acts.{is_short_kind, is_worded_act, may_act}
@@ -32,10 +33,9 @@ use Rattle.text_model.specs.Acts.{is_act, is_command, is_field_number, is_kind, 
 use Rattle.text_model.specs.DefLines.{is_named_def}
 use Rattle.text_model.specs.Events.{is_event, is_number}
 use Rattle.text_model.specs.Marks.{is_id, is_room_name}
-use Rattle.text_model.specs.Schedules.{IsScheduleText, are_named_defs, is_schedule, schedule_text}
+use Rattle.text_model.specs.Schedules.{IsScheduleText, are_named_defs, is_schedule}
 use Rattle.text_model.specs.SchemaLines.{is_spelled}
 use Rattle.text_model.specs.WordForms.{are_bytes, is_text}
-use Rattle.room_server.proofs.LineLengths.{AreShort, act_length, kind_length, name_length, text_short}
 use Rattle.room_server.specs.Plays.{CanPlay}
 use Rattle.room_server.specs.Promised.{Keeps, KeepsPromises, KeepsTaken}
 use Rattle.room_server.specs.Turns.{rules, start}
@@ -64,62 +64,70 @@ worded_command (command.Add r v) h = and_from (is_worded v) true (worded_value v
 worded_command (command.Del r v) h = refl
 worded_command (command.Clear r) h = refl
 
-short_kind : (k : MsgKind) → name_length k ≤ 2 ^ 24 → is_short_kind k ≡ true
-short_kind (kind.Name name) few = lt-ltb (length name) (2 ^ 32) (omega (arith, few))
-short_kind (kind.Num z) few = refl
+short_kind : (k : MsgKind) → is_kind k ≡ true → is_short_kind k ≡ true
+short_kind (kind.Name t) h = (and_parts (is_text t) _ h).1
+short_kind (kind.Num z) h = refl
 
-acts_may : (a : Act) → is_act a ≡ true → act_length a ≤ 2 ^ 24 → may_act a ≡ true
-acts_may (act.State c) h few = refl
-acts_may (act.ViewAdd s p) h few = refl
-acts_may (act.ViewDel s p) h few = refl
-acts_may (act.Send s k payload) h few = short_kind k few
-acts_may (act.Raw s k payload) h few = short_kind k few
-acts_may (act.ToAll k payload) h few = short_kind k few
-acts_may (act.Kick s code) h few = refl
-acts_may act.Lock h few = refl
-acts_may act.Unlock h few = refl
-acts_may (act.Keep s ms) h few = (and_parts (is_id s) _ h).1
+kept_kind : (k : MsgKind) → is_kind k ≡ true → is_kept_kind k ≡ true
+kept_kind (kind.Name t) h = (and_parts (are_bytes t) (is_utf8 t) (and_parts (is_text t) _ h).0).1
+kept_kind (kind.Num z) h = h
+
+-- the kind of a message to one session, and of one to all
+one_kind : (s : List ℕ) (k : MsgKind) (payload : List ℕ) → (is_id s && (is_kind k && are_bytes payload)) ≡ true → is_kind k ≡ true
+one_kind s k payload h = (and_parts (is_kind k) (are_bytes payload) (and_parts (is_id s) (is_kind k && are_bytes payload) h).1).0
+
+acts_may : (a : Act) → is_act a ≡ true → may_act a ≡ true
+acts_may (act.State c) h = refl
+acts_may (act.ViewAdd s p) h = refl
+acts_may (act.ViewDel s p) h = refl
+acts_may (act.Send s k payload) h = short_kind k (one_kind s k payload h)
+acts_may (act.Raw s k payload) h = short_kind k (one_kind s k payload h)
+acts_may (act.ToAll k payload) h = short_kind k (and_parts (is_kind k) (are_bytes payload) h).0
+acts_may (act.Kick s code) h = refl
+acts_may act.Lock h = refl
+acts_may act.Unlock h = refl
+acts_may (act.Keep s ms) h = (and_parts (is_id s) _ h).1
 
 acts_worded : (a : Act) → is_act a ≡ true → is_worded_act a ≡ true
 acts_worded (act.State c) h = worded_command c h
 acts_worded (act.ViewAdd s p) h = refl
 acts_worded (act.ViewDel s p) h = refl
-acts_worded (act.Send s k payload) h = refl
-acts_worded (act.Raw s k payload) h = refl
-acts_worded (act.ToAll k payload) h = refl
+acts_worded (act.Send s k payload) h = kept_kind k (one_kind s k payload h)
+acts_worded (act.Raw s k payload) h = kept_kind k (one_kind s k payload h)
+acts_worded (act.ToAll k payload) h = kept_kind k (and_parts (is_kind k) (are_bytes payload) h).0
 acts_worded (act.Kick s code) h = refl
 acts_worded act.Lock h = refl
 acts_worded act.Unlock h = refl
 acts_worded (act.Keep s ms) h = refl
 
-event_taken : (e : HubEvent) → is_event e ≡ true → kind_length e ≤ 2 ^ 24 → may_take e ≡ true
-event_taken (event.At ms) h few = refl
-event_taken (event.Ask conn target body room session) h few =
+event_taken : (e : HubEvent) → is_event e ≡ true → may_take e ≡ true
+event_taken (event.At ms) h = refl
+event_taken (event.Ask conn target body room session) h =
     (and_parts (are_bytes body) (is_id room && is_id session) (and_parts (is_text target) (are_bytes body && (is_id room && is_id session)) (and_parts (is_number conn) (is_text target && (are_bytes body && (is_id room && is_id session))) h).1).1).1
-event_taken (event.Bad conn) h few = refl
-event_taken (event.Opening conn target fresh) h few = (and_parts (is_text target) (is_id fresh) (and_parts (is_number conn) (is_text target && is_id fresh) h).1).1
-event_taken (event.Frame conn bytes) h few = refl
-event_taken (event.Lost conn) h few = refl
-event_taken (event.Act room a) h few = acts_may a (and_parts (is_id room) (is_act a) h).1 few
-event_taken (event.Tick room) h few = refl
+event_taken (event.Bad conn) h = refl
+event_taken (event.Opening conn target fresh) h = (and_parts (is_text target) (is_id fresh) (and_parts (is_number conn) (is_text target && is_id fresh) h).1).1
+event_taken (event.Frame conn bytes) h = refl
+event_taken (event.Lost conn) h = refl
+event_taken (event.Act room a) h = acts_may a (and_parts (is_id room) (is_act a) h).1
+event_taken (event.Tick room) h = refl
 
-event_comes : (e : HubEvent) → is_event e ≡ true → kind_length e ≤ 2 ^ 24 → may_come e ≡ true
-event_comes (event.At ms) h few = refl
-event_comes (event.Ask conn target body room session) h few = refl
-event_comes (event.Bad conn) h few = refl
-event_comes (event.Opening conn target fresh) h few = refl
-event_comes (event.Frame conn bytes) h few = refl
-event_comes (event.Lost conn) h few = refl
-event_comes (event.Act room a) h few = (let is = (and_parts (is_id room) (is_act a) h).1 in and_from (may_act a) (is_worded_act a) (acts_may a is few) (acts_worded a is))
-event_comes (event.Tick room) h few = refl
+event_comes : (e : HubEvent) → is_event e ≡ true → may_come e ≡ true
+event_comes (event.At ms) h = refl
+event_comes (event.Ask conn target body room session) h = refl
+event_comes (event.Bad conn) h = refl
+event_comes (event.Opening conn target fresh) h = refl
+event_comes (event.Frame conn bytes) h = refl
+event_comes (event.Lost conn) h = refl
+event_comes (event.Act room a) h = (let is = (and_parts (is_id room) (is_act a) h).1 in and_from (may_act a) (is_worded_act a) (acts_may a is) (acts_worded a is))
+event_comes (event.Tick room) h = refl
 
-all_taken : (es : List HubEvent) → list_all is_event es ≡ true → AreShort (2 ^ 24) es → list_all may_take es ≡ true
-all_taken [] h few = refl
-all_taken (e ∷ es) h few = (let both = and_parts (is_event e) (list_all is_event es) h in and_from (may_take e) (list_all may_take es) (event_taken e both.0 few.0) (all_taken es both.1 few.1))
+all_taken : (es : List HubEvent) → list_all is_event es ≡ true → list_all may_take es ≡ true
+all_taken [] h = refl
+all_taken (e ∷ es) h = (let both = and_parts (is_event e) (list_all is_event es) h in and_from (may_take e) (list_all may_take es) (event_taken e both.0) (all_taken es both.1))
 
-all_come : (es : List HubEvent) → list_all is_event es ≡ true → AreShort (2 ^ 24) es → list_all may_come es ≡ true
-all_come [] h few = refl
-all_come (e ∷ es) h few = (let both = and_parts (is_event e) (list_all is_event es) h in and_from (may_come e) (list_all may_come es) (event_comes e both.0 few.0) (all_come es both.1 few.1))
+all_come : (es : List HubEvent) → list_all is_event es ≡ true → list_all may_come es ≡ true
+all_come [] h = refl
+all_come (e ∷ es) h = (let both = and_parts (is_event e) (list_all is_event es) h in and_from (may_come e) (list_all may_come es) (event_comes e both.0) (all_come es both.1))
 
 -- ---- definitions
 
@@ -164,26 +172,22 @@ parts_of s h =
       events = c.1;
     }
 
-pub schedule_plays : (s : Schedule) → is_schedule s ≡ true → length (schedule_text s) ≤ 2 ^ 24 → CanPlay s
-schedule_plays s h short =
+pub schedule_plays : (s : Schedule) → is_schedule s ≡ true → CanPlay s
+schedule_plays s h =
     let p = parts_of s h in
     record {
       process = p.process;
       defs = and_from (nat_le (length s.defs) most_defs) _ p.few (and_from (list_all is_room_def s.defs) (names_differ s.defs) p.forms p.differ);
-      events = all_taken s.events p.events (text_short (2 ^ 24) s short);
+      events = all_taken s.events p.events;
     }
-
--- a text that was read as a schedule can be played
-pub text_plays : (text : List ℕ) (s : Schedule) → length text ≤ 2 ^ 24 → IsScheduleText text s → CanPlay s
-text_plays text s short is = schedule_plays s is.0 (subst (λ t. length t ≤ 2 ^ 24) is.1 short)
 
 -- ---- the promises
 
-pub schedule_keeps : (s : Schedule) → is_schedule s ≡ true → length (schedule_text s) ≤ 2 ^ 24 → KeepsPromises s
-schedule_keeps s h short =
+pub schedule_keeps : (s : Schedule) → is_schedule s ≡ true → KeepsPromises s
+schedule_keeps s h =
     let p = parts_of s h in
     hubs_keep (λ defs target body. read_request defs target (said_by body)) s.schema s.process s.defs s.events
-    (record { schema_kept = p.kept; forms = p.forms; come = all_come s.events p.events (text_short (2 ^ 24) s short) })
+    (record { schema_kept = p.kept; forms = p.forms; come = all_come s.events p.events })
 
 -- the first events of the first ones
 taken_again : {X : Type 0} (m n : ℕ) (xs : List X) → (k : ℕ) × (take m (take n xs) ≡ take k xs)
@@ -199,6 +203,6 @@ first_keeps s es count keeps n =
     subst (λ xs. HubKeeps s.schema (hub_run rules (start s) xs)) (sym t.1) (keeps t.0)
 
 -- whatever was taken, they hold of the events whose outputs were taken whole
-pub taken_keep : (left taken0 taken1 : Option (List ℕ)) → IfSome left (λ text. (s : Schedule) → length text ≤ 2 ^ 24 → IsScheduleText text s → KeepsTaken taken0 taken1 s)
+pub taken_keep : (left taken0 taken1 : Option (List ℕ)) → IfSome left (λ text. (s : Schedule) → IsScheduleText text s → KeepsTaken taken0 taken1 s)
 taken_keep None taken0 taken1 = tt
-taken_keep (Some text) taken0 taken1 = λ s short is count took. first_keeps s s.events count (schedule_keeps s is.0 (subst (λ t. length t ≤ 2 ^ 24) is.1 short))
+taken_keep (Some text) taken0 taken1 = λ s is count took. first_keeps s s.events count (schedule_keeps s is.0)

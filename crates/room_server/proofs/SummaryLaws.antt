@@ -1,5 +1,5 @@
 -- The sessions of a hub that are live, room by room.
-use Rattle.std.proofs.Common.{◌≡◌, ◌+◌, ℕ, zero, suc, Bool, false, List, [], ◌∷◌, Option, Some, None, is_some, refl, sym, ap, ◌∙◌, add-one, arith, drop}
+use Rattle.std.proofs.Common.{◌≡◌, ◌+◌, ℕ, zero, suc, false, List, [], ◌∷◌, Option, Some, is_some, refl, sym, ap, ◌∙◌, add-one, arith, drop}
 use Rattle.std.specs.Prelude.{option_map, slice_get}
 use Rattle.room_model.specs.Room.{RoomValue}
 use Rattle.hub_model.specs.HubValues.{HubRoom}

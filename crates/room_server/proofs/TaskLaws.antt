@@ -1,12 +1,11 @@
 -- Which commands words can be.
-use Rattle.std.proofs.Common.{◌≡◌, ◌≤◌, ◌+◌, ℕ, Bool, true, false, List, [], ◌∷◌, Option, Some, None, cond, codes}
+use Rattle.std.proofs.Common.{ℕ, Bool, true, false, List, [], ◌∷◌, Option, Some, None, cond, codes}
 use Rattle.std.specs.Option.{option_map}
 use Rattle.std.specs.Str.{bytes_eq}
 use Rattle.text_model.specs.Events.{number_of_word}
 use Rattle.text_model.specs.Lines.{both}
-use Rattle.room_server.specs.declared.task.Task.{Task}
-use Rattle.room_server.specs.declared.task.Task.TheVariants.{Replay, Serve, View, Make}
-use Rattle.room_server.specs.Words.{alone, rounds_of, task_of, with_one, with_two}
+use Rattle.room_server.specs.declared.task.Task.TheVariants.{Replay, View, Make}
+use Rattle.room_server.specs.Words.{rounds_of, task_of}
 use Rattle.room_server.proofs.EndingLaws.{Built}
 
 viewed : (o : Option ℕ) → Built (option_map View o)

@@ -1,5 +1,5 @@
 -- What a command writes for a text, and how the program ends then. Ours.
-use Rattle.std.specs.Prelude.{ℕ, ◌^◌, Bool, true, false, List, [], ◌∷◌, ◌++◌, length, Option, Some, None, Result, Ok, Err, nat_lt, if◌then◌else◌, codes}
+use Rattle.std.specs.Prelude.{ℕ, ◌^◌, List, [], ◌∷◌, ◌++◌, length, Option, Some, None, Result, Ok, Err, nat_lt, if◌then◌else◌, codes}
 use Rattle.std.specs.Fmt.{decimal}
 use Rattle.life_model.specs.Clients.{Client}
 use Rattle.life_model.specs.declared.client.ClientFault.{ClientFault}
@@ -15,7 +15,7 @@ use Rattle.text_model.specs.Schedules.{Fault, read_schedule_text}
 use Rattle.room_server.specs.declared.ending.Ending.{Ending}
 use Rattle.room_server.specs.declared.ending.Ending.TheVariants.{Done, Usage, Refused}
 use Rattle.room_server.specs.declared.task.Task.{Task}
-use Rattle.room_server.specs.declared.task.Task.TheVariants.{Replay, Serve, View, Make}
+use Rattle.room_server.specs.declared.task.Task.TheVariants.{View, Make}
 use Rattle.room_server.specs.Frames.{frame_words}
 use Rattle.room_server.specs.Summaries.{summary_text}
 use Rattle.room_server.specs.Turns.{end_line, printed}

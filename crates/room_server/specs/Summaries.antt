@@ -1,5 +1,5 @@
 -- The summary of a schedule's run. Ours.
-use Rattle.std.specs.Prelude.{ℕ, ◌+◌, Bool, true, false, List, [], ◌∷◌, codes, filter, length, map}
+use Rattle.std.specs.Prelude.{ℕ, ◌+◌, Bool, true, false, List, [], ◌∷◌, codes, filter, length}
 use Rattle.std.specs.List.{fold}
 use Rattle.std.specs.Fmt.{decimal}
 use Rattle.hub_model.specs.declared.event.HubEvent.{HubEvent}

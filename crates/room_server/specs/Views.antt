@@ -3,7 +3,7 @@ use Rattle.std.specs.Prelude.{ℕ, ◌==◌, List, [], ◌∷◌, Result, Ok, Er
 use Rattle.schema_model.specs.Classes.{Schema}
 use Rattle.hub_model.specs.declared.event.HubOut.{HubOut}
 use Rattle.hub_model.specs.declared.event.HubOut.TheVariants.{Send, Close}
-use Rattle.life_model.specs.Clients.{Client, Turn, client_turn, closed, new_client}
+use Rattle.life_model.specs.Clients.{Client, client_turn, closed, new_client}
 use Rattle.life_model.specs.declared.client.ClientFault.{ClientFault}
 use Rattle.life_model.specs.declared.client.ClientOut.{ClientOut}
 use Rattle.text_model.specs.declared.schedule.Print.{Print}

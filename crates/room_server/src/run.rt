@@ -6,7 +6,7 @@ ghost use Rattle.outside.specs.Streams.{Takes, TakesFront};
 ghost use Rattle.text_model.specs.declared.schedule.Schedule.{Schedule};
 ghost use Rattle.text_model.specs.Schedules.{IsScheduleText};
 ghost use Rattle.room_server.specs.Answers.{answer_for};
-ghost use Rattle.room_server.specs.Endings.{status_of, IsAnswered, IsDone, IsEnded, IsQuiet, IsRefused};
+ghost use Rattle.room_server.specs.Endings.{IsAnswered, IsDone, IsEnded, IsQuiet, IsRefused};
 ghost use Rattle.room_server.specs.Promised.{KeepsTaken};
 ghost use Rattle.room_server.specs.Words.{task_of, usage_line};
 ghost use Rattle.room_server.specs.declared.ending.Ending.TheVariants as ending;
@@ -61,7 +61,7 @@ pub fn run<S: Source, K: Sink, W: Wire, C: Clock, I: Ids>(
         × TakesFront (K.taken sink.old) (K.taken sink.new) (answer_for (task_of words.now) text).output }
 
     // Whatever the status is, the same three promises hold of the events whose outputs the sink took whole.
-    ensures promises { task_of words.now ≡ Some Replay → IfSome (S.left source.old) (λ text. (s : Schedule) → length text ≤ 2 ^ 24 → IsScheduleText text s
+    ensures promises { task_of words.now ≡ Some Replay → IfSome (S.left source.old) (λ text. (s : Schedule) → IsScheduleText text s
         → KeepsTaken (K.taken sink.old) (K.taken sink.new) s) }
 
     // Where no count rose, words that are no command's get 2; and where memory didn't run out either, the words and the text

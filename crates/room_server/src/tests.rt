@@ -389,9 +389,24 @@ fn tells_the_frame_that_a_client_refuses(rt: HostRuntime) -> Result<(), Fail> {
 #[test]
 fn makes_a_load(rt: HostRuntime) -> Result<(), Fail> {
     let alloc = rt.alloc();
-    let text = Vec::from_slice(alloc, b"not looked at")?;
-    let output = "events 909\nticks 0\nlive 0\nrefused 0\nsends 8\nbytes 144\nend\n";
-    assert!(rt; answers(alloc, &["make", "1", "0"], text, 0, output.as_bytes())?);
+    let rows = [
+        (
+            "0",
+            "events 909\nticks 0\nlive 0\nrefused 0\nsends 8\nbytes 144\nend\n",
+        ),
+        // Three drops with returns.
+        (
+            "600",
+            "events 14718\nticks 600\nlive 8\nrefused 0\nsends 4661\nbytes 596079\nend\n",
+        ),
+    ];
+    for (rounds, output) in rows {
+        let text = Vec::from_slice(alloc, b"not looked at")?;
+        assert!(rt;
+            answers(alloc, &["make", "1", rounds], text, 0, output.as_bytes())?,
+            "{rounds}"
+        );
+    }
     Ok(())
 }
 

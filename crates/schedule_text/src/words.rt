@@ -14,6 +14,7 @@ use frame_model::MsgKind;
 use hex::FromHexError;
 use lists::{Bytes, Memory, Text, TextFault};
 use percent_encoding::percent_decode;
+use room_model::is_short_kind;
 use schema_model::{Id, RefNum, Value};
 use schema_reader::names::is_word;
 use std::alloc::Global;
@@ -164,13 +165,20 @@ pub fn read_value(alloc: Global, word: &[u8]) -> Result<Value, LineFault>
     }
 }
 
-/// A message kind: a quoted word, or a decimal of 32 bits.
+/// A message kind: a quoted word for fewer than 2^32 bytes, or a decimal of 32 bits.
 pub fn read_kind(alloc: Global, word: &[u8]) -> Result<MsgKind, LineFault>
     ensures { Reads result (kind_of word.now) }
 {
     match word {
         [] => Err(LineFault::NotOfForm),
-        [b'\'', ..] => Ok(MsgKind::Name(read_quoted(alloc, word)?)),
+        [b'\'', ..] => {
+            let kind = MsgKind::Name(read_quoted(alloc, word)?);
+            if is_short_kind(&kind) {
+                Ok(kind)
+            } else {
+                Err(LineFault::NotOfForm)
+            }
+        }
         _ => match read_signed(word) {
             Some(number) => Ok(MsgKind::Num(number)),
             None => Err(LineFault::NotOfForm),

@@ -12,7 +12,7 @@ pub mod scalar;
 pub mod schema;
 pub mod value;
 
-pub use class::{Class, Classes, FieldDecl, Fields, Item, Shape, copy_classes, copy_fields};
+pub use class::{Class, Classes, FieldDecl, Fields, Item, Shape};
 pub use fault::{ReadFault, ScalarFault};
 pub use limits::{LAST_NUMBER, MOST_CLASSES, MOST_FIELDS};
 pub use lists::{Bytes, Memory, Seq, Text, TextFault};

@@ -50,7 +50,7 @@ impl Schema {
     pub fn is_kind_of(&self, sub: TypeNum, sup: TypeNum) -> bool
         ensures { result ≡ is_kind_of self.now sub sup }
     {
-        is_in_line(self.classes.as_slice(), sub, sup)
+        is_in_line(self.classes().as_slice(), sub, sup)
     }
 
     /// The field of a class at an index, with the class that declares it; `None` where there is no such class or field.
@@ -58,7 +58,7 @@ impl Schema {
     pub fn declared(&self, class: TypeNum, index: u8) -> Option<(TypeNum, &FieldDecl)>
         ensures { option_map (λ d. let found : Declared = record { class = d.0; field = d.1.now } in found) result ≡ slice_get (fields_of self.now class) index }
     {
-        let classes = self.classes.as_slice();
+        let classes = self.classes().as_slice();
         let count = field_count(classes, class);
         find_declared(classes, class, usize::from(index), count)
     }

@@ -1,19 +1,20 @@
 ghost use Rattle.std.specs.Prelude.{◌≡◌, IfOk, IsTrue, Some, None, if◌then◌else◌};
 ghost use Rattle.schema_model.specs.Classes.{is_kept};
 
-use crate::class::{Classes, copy_classes};
+use crate::class::Classes;
 use crate::kept::makes_schema;
 use crate::number::TypeNum;
 use lists::Memory;
 use std::alloc::Global;
 use std::marker::Model;
+use std::rc::Rc;
 
 /// A list of classes and the class of the root. It has at most `MOST_CLASSES` classes, its type
 /// numbers are in range, its parents stand earlier, and no class has more than `MOST_FIELDS` fields
-/// in all.
+/// in all. All copies of a schema have their classes in common.
 #[derive(Debug, Drop)]
 pub struct Schema {
-    pub classes: Classes,
+    classes: Rc<Classes>,
     pub root: TypeNum,
 }
 
@@ -23,22 +24,30 @@ impl Model for Schema {
 
     ghost Value = { SchemaOf };
 
-    ghost view = { λ s. record { classes = s.classes; root = s.root } };
+    ghost view = { λ s. record { classes = s.classes.value; root = s.root } };
 
-    ghost invariant = { λ s. IsTrue (is_kept (record { classes = s.classes; root = s.root })) };
+    ghost invariant = { λ s. IsTrue (is_kept (record { classes = s.classes.value; root = s.root })) };
 }
 
 impl Schema {
     /// The schema of these classes, where they keep the limits.
-    pub fn new(classes: Classes, root: TypeNum) -> Option<Schema>
-        ensures { result ≡ (if is_kept (record { classes = classes; root = root })
-            then Some (record { classes = classes; root = root }) else None) }
+    pub fn new(alloc: Global, classes: Classes, root: TypeNum) -> Result<Option<Schema>, Memory>
+        ensures { IfOk result (λ schema. schema ≡ (if is_kept (record { classes = classes; root = root })
+            then Some (record { classes = classes; root = root }) else None)) }
     {
-        if makes_schema(classes.as_slice(), root) {
-            Some(Schema { classes, root })
-        } else {
-            None
+        if !makes_schema(classes.as_slice(), root) {
+            return Ok(None);
         }
+        let classes = Rc::new(alloc, classes)?;
+        Ok(Some(Schema { classes, root }))
+    }
+
+    /// The classes, in the order of their numbers. They keep the limits.
+    pub fn classes(&self) -> &Classes
+        ensures value { result.now ≡ self.now.classes }
+        ensures kept { IsTrue (is_kept (record { classes = result.now; root = self.now.root })) }
+    {
+        self.classes.as_ref()
     }
 
     /// A schema keeps its limits. It does nothing else than to say so.
@@ -48,12 +57,12 @@ impl Schema {
         let _ = &self.root;
     }
 
-    /// A second schema with the same classes.
-    pub fn copy(&self, alloc: Global) -> Result<Schema, Memory>
+    /// A second schema with the same classes. It takes no memory; `Memory` comes where there are 2^64 copies.
+    pub fn copy(&self) -> Result<Schema, Memory>
         ensures { IfOk result (λ x. x ≡ self.now) }
     {
         Ok(Schema {
-            classes: copy_classes(alloc, &self.classes)?,
+            classes: self.classes.clone()?,
             root: self.root,
         })
     }

@@ -9,7 +9,7 @@ use crate::draft::Draft;
 use crate::line::line_len;
 use crate::resolve::resolve;
 use crate::take::take_line;
-use schema_model::{Classes, Schema, TypeNum};
+use schema_model::{Classes, Memory, Schema, TypeNum};
 use std::alloc::Global;
 use text_model::SchemaFault;
 
@@ -50,9 +50,10 @@ fn read_kept(alloc: Global, text: &[u8]) -> Result<Schema, SchemaFault>
     ensures { GivesSchema result (read_schema_text text.now) }
 {
     let (classes, root) = read_parts(alloc, text)?;
-    match Schema::new(classes, root) {
-        Some(schema) => Ok(schema),
-        None => unreachable!(),
+    match Schema::new(alloc, classes, root) {
+        Ok(Some(schema)) => Ok(schema),
+        Ok(None) => unreachable!(),
+        Err(Memory) => Err(SchemaFault::Memory),
     }
 }
 

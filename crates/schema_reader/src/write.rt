@@ -127,7 +127,7 @@ fn append_root(out: &mut Vec<u8>, name: &[u8]) -> Result<(), Memory>
 fn write_lines(alloc: Global, schema: &Schema) -> Result<Bytes, Memory>
     ensures { IfOk result (λ bytes. bytes ≡ schema_text schema.now) }
 {
-    let classes = schema.classes.as_slice();
+    let classes = schema.classes().as_slice();
     let mut out = Vec::new(alloc);
     for class in classes {
         append_lines(&mut out, classes, class)?;

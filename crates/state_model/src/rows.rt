@@ -50,12 +50,12 @@ impl Rows {
     pub fn root_alone(alloc: Global, schema: &Schema) -> Result<Rows, Memory>
         ensures { IfOk result (λ r. r ≡ root_alone schema.now) }
     {
-        let mut rows = Rows::new(alloc);
-        rows.push(RowEntry {
+        let mut entries = Rising::with_room(alloc, 1)?;
+        entries.push(RowEntry {
             who: RefNum(0),
             row: Row::Struct(schema.root, Rising::new(alloc)),
         })?;
-        Ok(rows)
+        Ok(Rows { entries })
     }
 
     /// The numbers of the rows rise. It does nothing else than to say so.

@@ -12,9 +12,10 @@ use Rattle.schema_model.specs.declared.value.Value.{Value}
 use Rattle.schema_model.specs.declared.value.Value.TheVariants.{Whole, Str, Truth, Link}
 use Rattle.frame_model.specs.declared.frame.MsgKind.{MsgKind}
 use Rattle.frame_model.specs.declared.frame.MsgKind.TheVariants.{Name, Num}
+use Rattle.room_model.specs.Acts.{is_short_kind}
 use Rattle.text_model.specs.Acts.{code_of, is_kick_code, is_kind, is_value, is_view_tag}
 use Rattle.text_model.specs.Decimals.{decimal_below, signed_text, signed_within}
-use Rattle.text_model.specs.Lines.{is_word, some_if}
+use Rattle.text_model.specs.Lines.{is_word, passing, some_if}
 use Rattle.text_model.specs.Marks.{escape_digit, escaped, hex_byte, hex_digit, hex_word, is_id, quoted}
 use Rattle.text_model.specs.Outputs.{kind_word}
 use Rattle.text_model.specs.WordForms.{are_bytes, hex_of, hex_pairs, hex_value, id_of, is_text, kind_of, plain, plain_bytes, plain_of, plain_text_of, quoted_of, tag_of_word, truth_of, value_of, value_word, whole_of}
@@ -247,11 +248,12 @@ pub kind_read : (w : List ℕ) (k : MsgKind) → kind_of w ≡ Some k → (w ≡
 kind_read [] k h = absurd (cc)
 kind_read (c ∷ w) k h = by_quote (c == 39) h
   where
-    by_quote : (t : Bool) → cond t (option_map Name (quoted_of (c ∷ w))) (option_map Num (signed_within (2 ^ 31) (c ∷ w))) ≡ Some k → (c ∷ w ≡ kind_word k) × (is_kind k ≡ true)
+    by_quote : (t : Bool) → cond t (passing is_short_kind (option_map Name (quoted_of (c ∷ w)))) (option_map Num (signed_within (2 ^ 31) (c ∷ w))) ≡ Some k → (c ∷ w ≡ kind_word k) × (is_kind k ≡ true)
     by_quote true h =
-        let m = mapped_of Name (quoted_of (c ∷ w)) k h in
+        let p = passed is_short_kind (option_map Name (quoted_of (c ∷ w))) k h in
+        let m = mapped_of Name (quoted_of (c ∷ w)) k p.0 in
         let q = quoted_read (c ∷ w) m.0 m.1 in
-        (q.0 ∙ ap kind_word m.2, ap is_kind (sym m.2) ∙ q.1)
+        (q.0 ∙ ap kind_word m.2, ap is_kind (sym m.2) ∙ and_from (is_text m.0) _ q.1 (ap is_short_kind m.2 ∙ p.1))
     by_quote false h =
         let m = mapped_of Num (signed_within (2 ^ 31) (c ∷ w)) k h in
         let z = signed_read (2 ^ 31) (c ∷ w) m.0 (omega arith) m.1 in
@@ -265,7 +267,7 @@ number_kind (c ∷ w) h some =
     rw (apart.0) refl
 
 pub read_kind : (k : MsgKind) → is_kind k ≡ true → kind_of (kind_word k) ≡ Some k
-read_kind (Name t) h = ap (option_map Name) (read_quoted t h)
+read_kind (Name t) h = (let p = and_parts (is_text t) (is_short_kind (Name t)) h in pass is_short_kind _ (Name t) (ap (option_map Name) (read_quoted t p.0)) p.1)
 read_kind (Num (negsuc n)) h = ap (option_map Num) (read_signed (2 ^ 31) (negsuc n) (omega arith) h)
 read_kind (Num (pos n)) h =
     let small : n < 10 ^ 64 = omega (arith, ltb-true n (2 ^ 31) h) in

@@ -88,7 +88,7 @@ value_plain (Truth false) h = refl
 value_plain (Link n) h = ref_plain n h
 
 pub kind_plain : (k : MsgKind) → is_kind k ≡ true → is_plain (kind_word k) ≡ true
-kind_plain (Name t) h = quoted_plain t h
+kind_plain (Name t) h = quoted_plain t (and_parts (is_text t) _ h).0
 kind_plain (Num z) h = signed_plain (2 ^ 31) z (omega arith) h
 
 tag_plain : (z : ℤ) → is_view_tag z ≡ true → is_plain (signed_text z) ≡ true

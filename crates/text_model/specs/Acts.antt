@@ -11,6 +11,7 @@ use Rattle.state_model.specs.declared.command.Command.{Command}
 use Rattle.state_model.specs.declared.command.Command.TheVariants.{Make, MakeFor, Put, Unset, PutKey, DelKey, Push, SetAt, DelAt, Add, Del, Clear}
 use Rattle.frame_model.specs.declared.frame.MsgKind.{MsgKind}
 use Rattle.frame_model.specs.declared.frame.MsgKind.TheVariants as kind
+use Rattle.room_model.specs.Acts.{is_short_kind}
 use Rattle.room_model.specs.declared.event.Act.{Act}
 use Rattle.room_model.specs.declared.event.Act.TheVariants.{State, ViewAdd, ViewDel, Send, Raw, ToAll, Kick, Lock, Unlock, Keep}
 use Rattle.room_model.specs.Limits.{longest_time}
@@ -63,7 +64,7 @@ is_value (value.Truth b) = true
 is_value (value.Link n) = is_ref n
 
 abbrev pub is_kind : MsgKind → Bool
-is_kind (kind.Name t) = is_text t
+is_kind (kind.Name t) = is_text t && is_short_kind (kind.Name t)
 is_kind (kind.Num z) = in_signed (2 ^ 31) z
 
 -- the default tag, or 0 to 255

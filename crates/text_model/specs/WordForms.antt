@@ -9,6 +9,7 @@ use Rattle.schema_model.specs.declared.value.Value.{Value}
 use Rattle.schema_model.specs.declared.value.Value.TheVariants.{Whole, Str, Truth, Link}
 use Rattle.frame_model.specs.declared.frame.MsgKind.{MsgKind}
 use Rattle.frame_model.specs.declared.frame.MsgKind.TheVariants.{Name, Num}
+use Rattle.room_model.specs.Acts.{is_short_kind}
 use Rattle.text_model.specs.Decimals.{decimal_below, signed_text, signed_within}
 use Rattle.text_model.specs.Lines.{is_word, passing, some_if}
 use Rattle.text_model.specs.Marks.{escaped, hex_word, is_id, quoted}
@@ -94,10 +95,10 @@ value_of (c ∷ w) =
 
 -- ---- kinds and tags
 
--- the message kind whose word this is
+-- the message kind whose word this is: a number of 32 bits, or a name that is short
 abbrev pub kind_of : List ℕ → Option MsgKind
 kind_of [] = None
-kind_of (c ∷ w) = if c == 39 then option_map Name (quoted_of (c ∷ w)) else option_map Num (signed_within (2 ^ 31) (c ∷ w))
+kind_of (c ∷ w) = if c == 39 then passing is_short_kind (option_map Name (quoted_of (c ∷ w))) else option_map Num (signed_within (2 ^ 31) (c ∷ w))
 
 -- the tag whose word this is: `-1` for the default one, or 0 to 255
 abbrev pub tag_of_word : List ℕ → Option ℤ

@@ -57,7 +57,7 @@ impl RoomLike for ClosedRoom {
     ) -> Result<ClosedRoom, Memory> {
         Ok(ClosedRoom {
             alloc,
-            schema: schema.copy(alloc)?,
+            schema: schema.copy()?,
             def: def.copy(alloc)?,
             criteria: copy_texts(alloc, criteria)?,
             spent: false,

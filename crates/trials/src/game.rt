@@ -104,7 +104,7 @@ fn note<L: Ledger>(
 fn new_client(alloc: Global, schema: &Schema, id: Id) -> Result<Client, Memory> {
     Ok(Client {
         id,
-        decoder: Decoder::new(alloc, schema.copy(alloc)?)?,
+        decoder: Decoder::new(alloc, schema.copy()?)?,
         members: Members::new(alloc)?,
     })
 }

@@ -191,7 +191,7 @@ pub fn run(rt: &impl Abort, alloc: Global, schema: &str, script: &str) -> Result
 
 /// The rows of a new table after commands.
 pub fn rows_after(alloc: Global, schema: &Schema, line: &str) -> Result<Rows, Fail> {
-    let mut table = Table::new(alloc, schema.copy(alloc)?)?;
+    let mut table = Table::new(alloc, schema.copy()?)?;
     for text in line.split("; ") {
         table.apply(&command_of(alloc, text)?)?;
     }

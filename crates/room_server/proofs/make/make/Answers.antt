@@ -1,9 +1,9 @@
-use Rattle.std.proofs.Common.{◌≡◌, ◌∙◌, inl, refl, subst}
+use Rattle.std.proofs.Common.{◌∙◌, inl, refl, subst}
 use Rattle.outside.proofs.TakeLaws.{no_front}
 use Rattle.load_maker.specs.Generated.{generated}
 use Rattle.room_server.specs.Endings.{Writes}
 use Rattle.room_server.specs.Summaries.{summary_text}
-use Rattle.room_server.specs.declared.ending.Ending.TheVariants.{Done, WriteFailed}
+use Rattle.room_server.specs.declared.ending.Ending.TheVariants.{Done}
 use Rattle.room_server.proofs.EndingLaws.{written_ends}
 use Rattle.room_server.proofs.WriteLaws.{cause_of, quiet_of}
 use Rattle.room_server.proofs.make.make.Goals as goal

@@ -1,6 +1,4 @@
-use Rattle.std.proofs.Common.{◌∙◌, ap, refl, subst, sym, true, ◌≡◌}
-use Rattle.std.specs.List.{list_all}
-use Rattle.hub_core.specs.Held.{may_take}
+use Rattle.std.proofs.Common.{◌∙◌, ap, refl, true}
 use Rattle.room_server.proofs.WriteLaws.{writes_err, quiet_ok}
 use Rattle.room_server.proofs.PlayLaws.{at_first, one_further, stopped_within, stopped_here, takes_on, takes_rest, told_on}
 use Rattle.room_server.specs.Turns.{told}

@@ -4,11 +4,11 @@ use Rattle.room_server.specs.Endings.{EndsAs}
 use Rattle.room_server.specs.Turns.{printed}
 use Rattle.room_server.specs.declared.ending.Ending.TheVariants.{Done}
 use Rattle.room_server.proofs.EndingLaws.{written_ends}
-use Rattle.room_server.proofs.PlayedLaws.{text_plays}
+use Rattle.room_server.proofs.PlayedLaws.{schedule_plays}
 use Rattle.room_server.proofs.replay.replay_text.Goals as goal
 
 pub play-requires : goal.play-requires
-play-requires g c = text_plays c.args.text.now c.in-Ok.schedule c.requires.short c.in-Ok.ensures.found
+play-requires g c = schedule_plays c.in-Ok.schedule c.in-Ok.ensures.found.0
 
 pub returns-in-Ok-clause-ends : goal.returns-in-Ok-clause-ends
 returns-in-Ok-clause-ends g c =
