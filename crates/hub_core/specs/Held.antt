@@ -36,7 +36,7 @@ may_take (Opening conn target fresh) = is_id fresh
 may_take (Acted room a) = may_act a
 may_take e = true
 
--- the texts of an event's act are UTF-8, and the numbers of its message kinds have 32 bits
+-- the texts that an event's act puts are UTF-8
 abbrev pub is_worded : HubEvent → Bool
 is_worded (Acted room a) = is_worded_act a
 is_worded e = true

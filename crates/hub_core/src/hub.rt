@@ -3,19 +3,18 @@ ghost use Rattle.std.specs.Prelude.{◌≡◌, true, false, Some, is_some, optio
 ghost use Rattle.hub_model.specs.HubStep.{hub_step};
 ghost use Rattle.hub_model.specs.HubValues.{new_hub, room_of};
 ghost use Rattle.hub_model.specs.Ids.{is_id};
+ghost use Rattle.hub_model.specs.Kinds.{event_has_kept_kind};
 ghost use Rattle.hub_core.specs.Held.{are_hub_defs, is_worded, may_take};
 ghost use Rattle.hub_core.specs.Hubs.{Stands, hub_of};
 ghost use Rattle.hub_core.specs.Takes.{Takes, rules_of};
 
 use crate::parts::Parts;
-use frame_model::know_kind;
 use hub_model::{HubEvent, HubOuts};
 use lists::{Memory, Seq};
 use matchmaker::is_id;
-use room_like::RoomLike;
-use room_model::{Act, Defs};
+use room_like::{RoomLike, know_act};
+use room_model::Defs;
 use schema_model::{Id, Schema};
-use state_model::know_texts;
 use std::alloc::Global;
 use std::marker::Model;
 use std::sync::ledger::Ledger;
@@ -81,6 +80,7 @@ impl<R: RoomLike> Hub<R> {
         ensures spent { OnErr result (self.new.spent ≡ true) }
         ensures for_good { self.old.spent ≡ true → IsErr result }
         ensures worded { IsTrue (is_worded event.now) }
+        ensures kind { IsTrue (event_has_kept_kind event.now) }
     {
         know_event(event);
         if self.spent {
@@ -176,16 +176,13 @@ impl<R: RoomLike> Parts<R> {
     }
 }
 
-// The texts of an event's command and the names of its message kinds are UTF-8, and the numbers of its message kinds
-// have 32 bits. It does nothing else than to say so.
+// The texts that an event's act puts are UTF-8, and its message is about a name in UTF-8 or a number of 32 bits. It does
+// nothing else than to say so.
 fn know_event(event: &HubEvent)
-    ensures { IsTrue (is_worded event.now) }
+    ensures worded { IsTrue (is_worded event.now) }
+    ensures kind { IsTrue (event_has_kept_kind event.now) }
 {
     if let HubEvent::Act { act, .. } = event {
-        match act {
-            Act::State(command) => know_texts(command),
-            Act::Send(_, kind, _) | Act::Raw(_, kind, _) | Act::ToAll(kind, _) => know_kind(kind),
-            _ => {}
-        }
+        know_act(act);
     }
 }

@@ -6,3 +6,4 @@ pub mod Openings
 pub mod HubValues
 pub mod Dealt
 pub mod HubStep
+pub mod Kinds

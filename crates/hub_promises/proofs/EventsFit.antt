@@ -25,9 +25,11 @@ use Rattle.hub_model.specs.declared.request.Opening.{Opening as Opens}
 use Rattle.hub_model.specs.declared.conn.HubConn.{HubConn}
 use Rattle.hub_model.specs.HubValues.{HubValue, HubRoom, is_named, conn_of, conn_number, is_conn_for, def_of_room}
 use Rattle.hub_model.specs.HubStep.{Rules, room_made, decided, reserved_in, opened_by, event_if, event_in, event_of_conn, event_of_opening, deals, makes, moment_at, lapses_by}
+use Rattle.hub_model.specs.Kinds.{event_has_kept_kind}
 use Rattle.room_model.specs.Acts.{is_worded_act}
 use Rattle.life_model.specs.HubPromises.{may_come}
 use Rattle.hub_laws.proofs.Different.{passes_any, named_own, differ_more, RoomsDiffer}
+use Rattle.room_promises.proofs.EventsFollow.{tells_kept_kind}
 use Rattle.hub_promises.proofs.Deals.{Few, rooms_for, connected_at}
 use Rattle.hub_laws.proofs.Asked.{New, request_reserves, def_fits}
 
@@ -135,3 +137,33 @@ few_dealt rules h (Acted room a) r early forms differ steps come there def =
     let both = and_parts (may_act a) (is_worded_act a) come in
     one_if r.room (is_named room r) (happened.Act a) (λ t. both.0) both.1
 few_dealt rules h (Tick room) r early forms differ steps come there def = one_if r.room (is_named room r) happened.Tick (λ t. refl) refl
+
+-- ---- what the messages of events are about
+
+kept_if : (b : Bool) (x : RoomEvent) → tells_kept_kind x ≡ true → list_all tells_kept_kind (event_if b x) ≡ true
+kept_if true x good = and_from (tells_kept_kind x) true good refl
+kept_if false x good = refl
+
+kept_in : (id : Option (List ℕ)) (r : HubRoom) (x : RoomEvent) → tells_kept_kind x ≡ true → list_all tells_kept_kind (event_in id r x) ≡ true
+kept_in None r x good = refl
+kept_in (Some id) r x good = kept_if (is_named id r) x good
+
+kept_of_conn : (r : HubRoom) (x : List ℕ → RoomEvent) (c : Option HubConn) → ((s : List ℕ) → tells_kept_kind (x s) ≡ true) → list_all tells_kept_kind (event_of_conn r x c) ≡ true
+kept_of_conn r x None good = refl
+kept_of_conn r x (Some c) good = kept_if (is_named c.room r) (x c.session) (good c.session)
+
+kept_of_opening : (r : HubRoom) (fresh : List ℕ) (o : Option Opens) → list_all tells_kept_kind (event_of_opening r fresh o) ≡ true
+kept_of_opening r fresh None = refl
+kept_of_opening r fresh (Some o) = kept_if (is_named o.room r) (happened.Enter o.session o.token fresh) refl
+
+-- of those that a room is dealt they are such as a program has, where they are of the hub's event
+pub kept_dealt : (rules : Rules) (h : HubValue) (e : HubEvent) (r : HubRoom) → event_has_kept_kind e ≡ true → list_all tells_kept_kind (deals rules h e r) ≡ true
+kept_dealt rules h (At now) r good = kept_if (lapses_by (moment_at h now) r) (happened.Moment (moment_at h now)) refl
+kept_dealt rules h (Ask conn target body room session) r good =
+    kept_in (reserved_in h room (decided rules h target body room session)) r (happened.Reserve session (h.now + (def_of_room h.defs r).seat)) refl
+kept_dealt rules h (Bad conn) r good = refl
+kept_dealt rules h (Opening conn target fresh) r good = kept_of_opening r fresh (opened_by h conn target)
+kept_dealt rules h (Frame conn bytes) r good = kept_of_conn r (λ s. happened.Frame s bytes) (conn_of h conn) (λ s. refl)
+kept_dealt rules h (Lost conn) r good = kept_of_conn r (λ s. happened.Lost s h.now) (conn_of h conn) (λ s. refl)
+kept_dealt rules h (Acted room a) r good = kept_if (is_named room r) (happened.Act a) good
+kept_dealt rules h (Tick room) r good = kept_if (is_named room r) happened.Tick refl

@@ -19,6 +19,7 @@ use Rattle.hub_model.specs.declared.event.HubEvent.TheVariants as event
 use Rattle.hub_model.specs.Requests.{Said, read_request}
 use Rattle.hub_model.specs.HubValues.{HubRoom, new_hub}
 use Rattle.hub_model.specs.HubStep.{Rules}
+use Rattle.hub_model.specs.Kinds.{event_has_kept_kind}
 use Rattle.life_model.specs.Entries.{Entry, Asked, Opened, Framed, Ticked, Dropped, Kicked, Lapsed, Sending, Frame, Closing}
 use Rattle.life_model.specs.Followed.{takes_given, client_given}
 use Rattle.life_model.specs.HubLives.{HubLife, HubRun, hub_run, is_live}
@@ -206,10 +207,15 @@ messages_are_taken : map (λ (l : HubLife). takes_given flat l.outputs) (run (co
 unfolding digits reading state_reading percent_decode
 messages_are_taken = refl
 
--- none comes about a name that isn't UTF-8 or a number that isn't one of 32 bits, which no program has
-abbrev act_comes : Act → Bool
-act_comes a = may_come (event.Act r1 a)
+-- a message may come about a name that isn't UTF-8 or a number that isn't one of 32 bits; no program has such a kind
+abbrev comes_with_kind : Act → Bool × Bool
+comes_with_kind a = (may_come (event.Act r1 a), event_has_kept_kind (event.Act r1 a))
 
-no_other_kinds : map act_comes (act.Send s1 (kind.Name (255 ∷ [])) [] ∷ act.Raw s1 (kind.Name (255 ∷ [])) [] ∷ act.ToAll (kind.Num (pos 2147483648)) [] ∷ act.Send s1 (kind.Num (pos 2147483647)) [] ∷ []) ≡ false ∷ false ∷ false ∷ true ∷ []
+other_kinds : map comes_with_kind (act.Send s1 (kind.Name (255 ∷ [])) [] ∷ act.Raw s1 (kind.Name (255 ∷ [])) [] ∷ act.ToAll (kind.Num (pos 2147483648)) [] ∷ act.Send s1 (kind.Num (pos 2147483647)) [] ∷ []) ≡ (true, false) ∷ (true, false) ∷ (true, false) ∷ (true, true) ∷ []
 unfolding reading
-no_other_kinds = refl
+other_kinds = refl
+
+-- no client takes the first of them: that is why the clients' law asks for kinds such as a program has
+other_is_refused : map (λ (l : HubLife). takes_given flat l.outputs) (run (coming ++ told (act.ToAll (kind.Name (255 ∷ [])) []))).lives ≡ false ∷ true ∷ true ∷ []
+unfolding digits reading state_reading percent_decode
+other_is_refused = refl

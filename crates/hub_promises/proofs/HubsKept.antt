@@ -1,5 +1,5 @@
 -- Hubs keep their promises, over every list of events that may come.
-use Rattle.std.proofs.Common.{◌≡◌, ℕ, ◌&&◌, All, true, false, List, [], ◌∷◌, take, Option, Some, None, is_some, Ok, Result, refl, sym, ap, ◌∙◌, arith}
+use Rattle.std.proofs.Common.{◌≡◌, ℕ, Bool, ◌&&◌, All, true, false, List, [], ◌∷◌, take, Option, Some, None, is_some, Ok, Result, refl, sym, ap, ◌∙◌, arith}
 use Rattle.std.specs.Prelude.{Contains, option_and_then}
 use Rattle.std.specs.List.{fold, list_all}
 use Rattle.std.proofs.lemmas.Bool.{and_parts}
@@ -16,13 +16,14 @@ use Rattle.hub_model.specs.declared.event.HubEvent.{HubEvent}
 use Rattle.hub_model.specs.declared.request.AskFault.{AskFault}
 use Rattle.hub_model.specs.declared.request.Request.{Request}
 use Rattle.hub_model.specs.HubValues.{HubRoom, is_named, room_of, new_hub}
+use Rattle.hub_model.specs.Kinds.{event_has_kept_kind}
 use Rattle.life_model.specs.Lives.{is_at, is_live_stage}
 use Rattle.life_model.specs.LatestFrames.{latest_frames}
 use Rattle.life_model.specs.Followed.{takes_given, client_given}
 use Rattle.life_model.specs.RoomLives as room_lives
 use Rattle.life_model.specs.Sent.{sent}
 use Rattle.life_model.specs.HubLives.{HubLife, HubRun, in_room, session_in, run_step, hub_run, is_live}
-use Rattle.life_model.specs.HubPromises.{rules_of, may_come, CanRun, HubKeeps, HubsKeep, HubsGiveEqualBytes}
+use Rattle.life_model.specs.HubPromises.{rules_of, may_come, CanRun, HubKeeps, HubFollows, HubsKeep, HubsFollow, HubsGiveEqualBytes}
 use Rattle.room_promises.proofs.GoodLives.{GoesOn, GoodLife}
 use Rattle.room_promises.proofs.Follows.{Followed}
 use Rattle.room_promises.proofs.EventsFollow.{life_follows}
@@ -59,33 +60,38 @@ life_here schema x l g there live P shows = by_room (room_of x.hub l.room) refl
 abbrev AreFollowed : Schema → HubRun → Type 0
 AreFollowed schema x = All (λ (l : HubLife). Followed schema l.entries) x.lives
 
-good_keeps : (schema : Schema) (x : HubRun) → GoodHub schema x → AreFollowed schema x → HubKeeps schema x
-good_keeps schema x g all = record {
+good_keeps : (schema : Schema) (x : HubRun) → GoodHub schema x → HubKeeps schema x
+good_keeps schema x g = record {
   sees = λ l there live. life_here schema x l g there live (seen schema (latest_frames l.outputs) ≡ Ok l.view) (λ rows r good is. life_sees schema rows (record { room = r; lives = [] }) (in_room l) good is);
-  taken = λ l there. ap (takes_given schema) (equal l there) ∙ (followed l there).taken;
-  follows = λ l there live. life_here schema x l g there live ((client_given schema l.outputs).rows ≡ l.view) (λ rows r good is. life_follows schema rows r (in_room l) good (followed l there) is);
-  equal = equal;
+  equal = λ l there. (All-contains (GoodEnd schema x.hub) x.lives l g.lives there).equal;
   places = λ r there. (All-contains (GoodPlace schema x.hub.defs x.lives) x.hub.rooms r g.rooms there).room.within;
 }
-  where
-    equal : (l : HubLife) → Contains x.lives l → l.outputs ≡ sent schema l.entries
-    equal l there = (All-contains (GoodEnd schema x.hub) x.lives l g.lives there).equal
 
+-- and where its lives are followed, what is promised of the clients
+good_follows : (schema : Schema) (x : HubRun) → GoodHub schema x → AreFollowed schema x → HubFollows schema x
+good_follows schema x g all = record {
+  taken = λ l there. ap (takes_given schema) ((good_keeps schema x g).equal l there) ∙ (followed l there).taken;
+  follows = λ l there live. life_here schema x l g there live ((client_given schema l.outputs).rows ≡ l.view) (λ rows r good is. life_follows schema rows r (in_room l) good (followed l there) is);
+}
+  where
     followed : (l : HubLife) → Contains x.lives l → Followed schema l.entries
     followed l there = All-contains (λ (l : HubLife). Followed schema l.entries) x.lives l all there
 
 -- ---- every run
 
--- a good hub whose lives are followed
-record Goes (schema : Schema) (x : HubRun) : Type 0 where
-  good : GoodHub schema x
-  followed : AreFollowed schema x
-
-runs_good : (read : List RoomDef → List ℕ → List ℕ → Result Request AskFault) (schema : Schema) (x : HubRun) (es : List HubEvent) → is_kept schema ≡ true → list_all may_come es ≡ true → Goes schema x → Goes schema (fold (run_step (rules_of read)) x es)
+runs_good : (read : List RoomDef → List ℕ → List ℕ → Result Request AskFault) (schema : Schema) (x : HubRun) (es : List HubEvent) → is_kept schema ≡ true → list_all may_come es ≡ true → GoodHub schema x → GoodHub schema (fold (run_step (rules_of read)) x es)
 runs_good read schema x [] kept come g = g
 runs_good read schema x (e ∷ es) kept come g =
     let c = and_parts (may_come e) (list_all may_come es) come in
-    runs_good read schema (run_step (rules_of read) x e) es kept c.1 (record { good = step_good read schema x e kept c.0 g.good; followed = step_follows read schema x e kept c.0 g.good g.followed })
+    runs_good read schema (run_step (rules_of read) x e) es kept c.1 (step_good read schema x e kept c.0 g)
+
+runs_follow : (read : List RoomDef → List ℕ → List ℕ → Result Request AskFault) (schema : Schema) (x : HubRun) (es : List HubEvent) → is_kept schema ≡ true → list_all may_come es ≡ true → list_all event_has_kept_kind es ≡ true
+    → GoodHub schema x → AreFollowed schema x → AreFollowed schema (fold (run_step (rules_of read)) x es)
+runs_follow read schema x [] kept come kinds g all = all
+runs_follow read schema x (e ∷ es) kept come kinds g all =
+    let c = and_parts (may_come e) (list_all may_come es) come in
+    let k = and_parts (event_has_kept_kind e) (list_all event_has_kept_kind es) kinds in
+    runs_follow read schema (run_step (rules_of read) x e) es kept c.1 k.1 (step_good read schema x e kept c.0 g) (step_follows read schema x e kept c.0 k.0 g all)
 
 new_good : (schema : Schema) (process : List ℕ) (defs : List RoomDef) → list_all is_room_def defs ≡ true → GoodHub schema (record { hub = new_hub schema process defs; lives = [] })
 new_good schema process defs forms = record {
@@ -99,19 +105,28 @@ new_good schema process defs forms = record {
   lives = All-nil _;
 }
 
-run_keeps : (read : List RoomDef → List ℕ → List ℕ → Result Request AskFault) (schema : Schema) (process : List ℕ) (defs : List RoomDef) (events : List HubEvent) → CanRun schema defs events → HubKeeps schema (hub_run (rules_of read) (new_hub schema process defs) events)
-run_keeps read schema process defs events can =
-    let g = runs_good read schema (record { hub = new_hub schema process defs; lives = [] }) events can.schema_kept can.come (record { good = new_good schema process defs can.forms; followed = All-nil _ }) in
-    good_keeps schema (hub_run (rules_of read) (new_hub schema process defs) events) g.good g.followed
+-- the hub behind a run, from which it may be made
+run_good : (read : List RoomDef → List ℕ → List ℕ → Result Request AskFault) (schema : Schema) (process : List ℕ) (defs : List RoomDef) (events : List HubEvent) → CanRun schema defs events → GoodHub schema (hub_run (rules_of read) (new_hub schema process defs) events)
+run_good read schema process defs events can = runs_good read schema (record { hub = new_hub schema process defs; lives = [] }) events can.schema_kept can.come (new_good schema process defs can.forms)
+
+-- of the first events of a run
+first_all : (test : HubEvent → Bool) (n : ℕ) (events : List HubEvent) → list_all test events ≡ true → list_all test (take n events) ≡ true
+first_all test n events all = list_all-from_AllPass test (take n events) (All-take (λ e. test e ≡ true) n events (AllPass-from_list_all test events all))
+
+first_can : (schema : Schema) (defs : List RoomDef) (events : List HubEvent) (n : ℕ) → CanRun schema defs events → CanRun schema defs (take n events)
+first_can schema defs events n can = record { schema_kept = can.schema_kept; forms = can.forms; come = first_all may_come n events can.come }
 
 pub hubs_keep : HubsKeep
 hubs_keep read schema process defs events can n =
-    run_keeps read schema process defs (take n events) (record {
-      schema_kept = can.schema_kept;
-      forms = can.forms;
-      come = list_all-from_AllPass may_come (take n events) (All-take (λ e. may_come e ≡ true) n events (AllPass-from_list_all may_come events can.come));
-    })
+    good_keeps schema (hub_run (rules_of read) (new_hub schema process defs) (take n events)) (run_good read schema process defs (take n events) (first_can schema defs events n can))
+
+pub hubs_follow : HubsFollow
+hubs_follow read schema process defs events can kinds n =
+    let first = first_can schema defs events n can in
+    good_follows schema (hub_run (rules_of read) (new_hub schema process defs) (take n events)) (run_good read schema process defs (take n events) first)
+    (runs_follow read schema (record { hub = new_hub schema process defs; lives = [] }) (take n events) can.schema_kept first.come (first_all event_has_kept_kind n events kinds) (new_good schema process defs can.forms) (All-nil _))
 
 pub hubs_give_equal_bytes : HubsGiveEqualBytes
 hubs_give_equal_bytes read readen schema process other defs others events happened can may k l there here same =
-    (run_keeps read schema process defs events can).equal k there ∙ (ap (sent schema) same ∙ sym ((run_keeps readen schema other others happened may).equal l here))
+    (good_keeps schema (hub_run (rules_of read) (new_hub schema process defs) events) (run_good read schema process defs events can)).equal k there
+    ∙ (ap (sent schema) same ∙ sym ((good_keeps schema (hub_run (rules_of readen) (new_hub schema other others) happened) (run_good readen schema other others happened may)).equal l here))

@@ -1,8 +1,9 @@
 -- The clients that follow the lives of a hub, behind each event that may come.
 use Rattle.std.proofs.Common.{◌≡◌, ℕ, Bool, true, false, cond, List, [], ◌∷◌, ◌++◌, All, Option, Some, None, Result, refl, sym, subst, append-nil, inl, inr}
 use Rattle.std.specs.Prelude.{Contains}
-use Rattle.std.specs.List.{find}
+use Rattle.std.specs.List.{find, list_all}
 use Rattle.std.specs.Option.{option_map_or}
+use Rattle.std.proofs.lemmas.Bool.{and_parts}
 use Rattle.std.proofs.lemmas.List.Elements.{All-nil, All-cons, All-append, All-map, All-weaker, All-contains, All-contains_itself}
 use Rattle.schema_model.specs.Classes.{Schema, is_kept}
 use Rattle.room_model.specs.declared.definition.RoomDef.{RoomDef}
@@ -16,6 +17,7 @@ use Rattle.hub_model.specs.declared.request.AskFault.{AskFault}
 use Rattle.hub_model.specs.declared.request.Request.{Request}
 use Rattle.hub_model.specs.HubValues.{HubRoom, is_named}
 use Rattle.hub_model.specs.HubStep.{deals, hub_step, reserved_in, decided}
+use Rattle.hub_model.specs.Kinds.{event_has_kept_kind}
 use Rattle.life_model.specs.Entries.{Record}
 use Rattle.life_model.specs.HubPromises.{rules_of, may_come}
 use Rattle.life_model.specs.RoomLives.{room_entries}
@@ -23,9 +25,10 @@ use Rattle.life_model.specs.HubLives.{HubLife, HubRun, in_room, new_life, lived,
 use Rattle.room_promises.proofs.GoodLives.{GoesOn}
 use Rattle.room_promises.proofs.RoomSteps.{is_tick}
 use Rattle.room_promises.proofs.Follows.{Follows, Followed, followed_none}
-use Rattle.room_promises.proofs.EventsFollow.{followed_same, event_follows, tick_follows, begun_ticked}
+use Rattle.room_promises.proofs.EventsFollow.{followed_same, tells_kept_kind, event_follows, tick_follows, begun_ticked}
 use Rattle.hub_laws.proofs.Different.{found_in}
 use Rattle.hub_promises.proofs.Deals.{Few, One, rooms_for}
+use Rattle.hub_promises.proofs.EventsFit.{kept_dealt}
 use Rattle.hub_promises.proofs.Moves.{quiet_between}
 use Rattle.hub_promises.proofs.GoodHubs.{GoodPlace, GoodHub, place_of, ready}
 use Rattle.hub_promises.proofs.LivesMove.{asked_of_quiet, lived_on}
@@ -36,26 +39,29 @@ use Rattle.hub_promises.proofs.LivesMove.{asked_of_quiet, lived_on}
 abbrev TickFollows : Schema → RoomValue → List ℕ → Record → Type 0
 TickFollows schema r session entries = Followed schema (entries ++ room_entries r happened.Tick (room_step r happened.Tick).0 session)
 
-one_follows : (schema : Schema) (r : RoomValue) (es : List RoomEvent) (session : List ℕ) (entries : Record) → One r es → TickFollows schema r session entries → Followed schema entries → Followed schema (entries ++ dealt_entries room_step r es session)
-one_follows schema r es session entries one ticked f =
+one_follows : (schema : Schema) (r : RoomValue) (es : List RoomEvent) (session : List ℕ) (entries : Record) → One r es → list_all tells_kept_kind es ≡ true → TickFollows schema r session entries → Followed schema entries → Followed schema (entries ++ dealt_entries room_step r es session)
+one_follows schema r es session entries one good ticked f =
     subst (λ es. Followed schema (entries ++ dealt_entries room_step r es session)) (sym one.is)
     (subst (λ es. Followed schema (entries ++ es)) (sym (append-nil (room_entries r one.event (room_step r one.event).0 session))) (by_tick (is_tick one.event) refl))
   where
+    own : tells_kept_kind one.event ≡ true
+    own = (and_parts (tells_kept_kind one.event) true (subst (λ es. list_all tells_kept_kind es ≡ true) one.is good)).0
+
     ticks : (e : RoomEvent) → is_tick e ≡ true → Followed schema (entries ++ room_entries r e (room_step r e).0 session)
     ticks happened.Tick is = ticked
     ticks e is = cc
 
     by_tick : (b : Bool) → is_tick one.event ≡ b → Followed schema (entries ++ room_entries r one.event (room_step r one.event).0 session)
     by_tick true is = ticks one.event is
-    by_tick false is = event_follows schema r one.event (room_step r one.event).0 session entries is one.worded one.may f
+    by_tick false is = event_follows schema r one.event (room_step r one.event).0 session entries is own one.may f
 
-few_follow : (schema : Schema) (r : RoomValue) (es : List RoomEvent) (session : List ℕ) (entries : Record) → Few r es → TickFollows schema r session entries → Followed schema entries → Followed schema (entries ++ dealt_entries room_step r es session)
-few_follow schema r es session entries (inl none) ticked f = subst (λ es. Followed schema (entries ++ dealt_entries room_step r es session)) (sym none) (followed_same schema entries f)
-few_follow schema r es session entries (inr one) ticked f = one_follows schema r es session entries one ticked f
+few_follow : (schema : Schema) (r : RoomValue) (es : List RoomEvent) (session : List ℕ) (entries : Record) → Few r es → list_all tells_kept_kind es ≡ true → TickFollows schema r session entries → Followed schema entries → Followed schema (entries ++ dealt_entries room_step r es session)
+few_follow schema r es session entries (inl none) good ticked f = subst (λ es. Followed schema (entries ++ dealt_entries room_step r es session)) (sym none) (followed_same schema entries f)
+few_follow schema r es session entries (inr one) good ticked f = one_follows schema r es session entries one good ticked f
 
 -- ---- each life
 
-module _ (read : List RoomDef → List ℕ → List ℕ → Result Request AskFault) (schema : Schema) (x : HubRun) (e : HubEvent) (kept : is_kept schema ≡ true) (come : may_come e ≡ true) (g : GoodHub schema x) where
+module _ (read : List RoomDef → List ℕ → List ℕ → Result Request AskFault) (schema : Schema) (x : HubRun) (e : HubEvent) (kept : is_kept schema ≡ true) (come : may_come e ≡ true) (good : event_has_kept_kind e ≡ true) (g : GoodHub schema x) where
   abbrev rooms : List HubRoom
   rooms = rooms_for (rules_of read) x.hub e
 
@@ -79,7 +85,7 @@ module _ (read : List RoomDef → List ℕ → List ℕ → Result Request AskFa
       by_room None found = followed_same schema l.entries f
       by_room (Some r) found =
           let there = found_in (is_named l.room) rooms r found in
-          few_follow schema r.room (deals (rules_of read) x.hub e r) l.session l.entries ((ready read schema x e kept come g).few r there)
+          few_follow schema r.room (deals (rules_of read) x.hub e r) l.session l.entries ((ready read schema x e kept come g).few r there) (kept_dealt (rules_of read) x.hub e r good)
           (ticked r there (named_key (λ (r : HubRoom). r.id) l.room rooms r found)) f
 
   -- one that there was; where it has ended it stays as it is

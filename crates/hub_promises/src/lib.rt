@@ -3,4 +3,4 @@
 
 pub mod hubs;
 
-pub use hubs::{hubs_give_equal_bytes, hubs_keep};
+pub use hubs::{hubs_follow, hubs_give_equal_bytes, hubs_keep};

@@ -12,7 +12,7 @@ ghost use Rattle.instance_table.specs.Nodes.{at_node, held_less, held_more, held
 use crate::holding;
 use crate::node::Node;
 use crate::plan::Spot;
-use lists::{make_room_for_first, search, search_near};
+use lists::{push_lean, search, search_near};
 use schema_model::{Memory, RefNum};
 use state_model::{Command, RowEntry, Rows};
 use std::alloc::Global;
@@ -107,7 +107,7 @@ impl Nodes {
             number: who.0,
             item: Some(node),
         };
-        push_slot(&mut self.slots, slot)?;
+        push_lean(&mut self.slots, slot)?;
         self.len += 1;
         Ok(())
     }
@@ -198,15 +198,6 @@ impl Nodes {
         };
         holding::rest(&mut self.slots[at]);
     }
-}
-
-// Adds a row at the end. The first takes memory for one alone, as many tables have no second.
-fn push_slot(slots: &mut Vec<Slot<Node>>, slot: Slot<Node>) -> Result<(), Memory>
-    ensures { slots.new.items ≡ (if is_ok result then slots.old.items ++ slot ∷ [] else slots.old.items) }
-{
-    make_room_for_first(slots)?;
-    slots.push(slot)?;
-    Ok(())
 }
 
 // The rows in slots, each with its number.

@@ -11,6 +11,6 @@ pub mod text;
 pub use bytes::Bytes;
 pub use memory::Memory;
 pub use rising::{Keyed, Rising, place_after, search, search_near};
-pub use room::{make_room, make_room_for_first};
+pub use room::{make_room, push_lean};
 pub use seq::Seq;
 pub use text::{Text, TextFault};

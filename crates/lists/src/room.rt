@@ -1,5 +1,5 @@
 //! Room in vectors.
-ghost use Rattle.std.specs.Prelude.{◌≡◌, ◌≤◌, OnOk, vec_capacity};
+ghost use Rattle.std.specs.Prelude.{◌≡◌, ◌≤◌, ◌∷◌, ◌++◌, [], OnOk, if◌then◌else◌, is_ok, vec_capacity};
 
 use crate::memory::Memory;
 
@@ -14,13 +14,13 @@ pub fn make_room<T>(items: &mut Vec<T>, room: usize) -> Result<(), Memory>
     Ok(())
 }
 
-/// Makes room for a first item alone, since many lists have no second. It does nothing to a list that has items.
-pub fn make_room_for_first<T>(items: &mut Vec<T>) -> Result<(), Memory>
-    ensures items { items.new.items ≡ items.old.items }
-    ensures kept { vec_capacity items.old ≤ vec_capacity items.new }
+/// Adds an item at the end. A first one takes memory for itself alone, since many lists have no second.
+pub fn push_lean<T: Drop>(items: &mut Vec<T>, item: T) -> Result<(), Memory>
+    ensures { items.new.items ≡ (if is_ok result then items.old.items ++ item ∷ [] else items.old.items) }
 {
     if items.is_empty() {
         items.reserve_exact(1)?;
     }
+    items.push(item)?;
     Ok(())
 }

@@ -1,5 +1,5 @@
 //! How clients come into a room: reservations and openings.
-ghost use Rattle.std.specs.Prelude.{◌≡◌, ◌++◌, [], ◌∷◌, if◌then◌else◌, is_ok, IfOk, IsTrue, OnErr, OnOk};
+ghost use Rattle.std.specs.Prelude.{◌≡◌, [], ◌∷◌, IfOk, IsTrue, OnErr, OnOk};
 ghost use Rattle.room_model.specs.Room.{after_enter, after_reserve};
 ghost use Rattle.room_laws.specs.Ordered.{Ordered};
 ghost use Rattle.room_laws.specs.Places.{has_place_for};
@@ -12,7 +12,7 @@ ghost use Rattle.room_core.specs.Values.{room_of};
 use crate::client::Client;
 use crate::frames::join_frame;
 use crate::parts::Parts;
-use lists::{Seq, make_room_for_first};
+use lists::{Seq, push_lean};
 use room_model::{RoomOut, RoomOuts, Seat, SeatFault, Stage};
 use schema_model::{Id, Memory};
 use seat_ledger::SeatLedger;
@@ -38,7 +38,7 @@ impl Parts {
             queue: Seq::new(self.alloc),
             keep: self.def.keep as u32,
         };
-        push_client(&mut self.clients, client)?;
+        push_lean(&mut self.clients, client)?;
         self.places.reserve(session, lapse).unwrap();
         Ok(())
     }
@@ -124,13 +124,4 @@ pub fn one_out(alloc: Global, out: RoomOut) -> Result<RoomOuts, Memory>
     let mut outs = Seq::new(alloc);
     outs.push(out)?;
     Ok(outs)
-}
-
-// Adds a client at the end. The first takes memory for one alone, as many rooms have no second.
-fn push_client(clients: &mut Vec<Client>, client: Client) -> Result<(), Memory>
-    ensures { clients.new.items ≡ (if is_ok result then clients.old.items ++ client ∷ [] else clients.old.items) }
-{
-    make_room_for_first(clients)?;
-    clients.push(client)?;
-    Ok(())
 }

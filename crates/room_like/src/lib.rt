@@ -7,4 +7,4 @@ pub mod worded;
 
 pub use reserving::may_reserve;
 pub use room::RoomLike;
-pub use worded::know_event;
+pub use worded::{know_act, know_event};

@@ -21,11 +21,14 @@ may_act (act.ToAll kind payload) = is_short_kind kind
 may_act (act.Keep session ms) = nat_le ms longest_time
 may_act a = true
 
--- the texts of an act, which its command puts or which name a message kind, are UTF-8, and a kind's number is one of 32 bits,
--- as those of every act are that a program has
+-- the texts that an act's command puts are UTF-8
 abbrev pub is_worded_act : Act → Bool
 is_worded_act (act.State command) = is_worded_command command
-is_worded_act (act.Send session kind payload) = is_kept_kind kind
-is_worded_act (act.Raw session kind payload) = is_kept_kind kind
-is_worded_act (act.ToAll kind payload) = is_kept_kind kind
 is_worded_act a = true
+
+-- what an act's message is about is such as a program has: a name in UTF-8, or a number of 32 bits
+abbrev pub has_kept_kind : Act → Bool
+has_kept_kind (act.Send session kind payload) = is_kept_kind kind
+has_kept_kind (act.Raw session kind payload) = is_kept_kind kind
+has_kept_kind (act.ToAll kind payload) = is_kept_kind kind
+has_kept_kind a = true

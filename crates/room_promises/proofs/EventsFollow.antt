@@ -7,7 +7,7 @@ use Rattle.state_model.specs.State.{State, swept}
 use Rattle.state_model.specs.Shown.{shared}
 use Rattle.frame_model.specs.Frames.{server_bytes}
 use Rattle.frame_model.specs.declared.frame.ServerFrame.TheVariants as server
-use Rattle.room_model.specs.Acts.{may_act, is_worded_act}
+use Rattle.room_model.specs.Acts.{may_act, has_kept_kind}
 use Rattle.room_model.specs.declared.event.Act.{Act}
 use Rattle.room_model.specs.declared.event.Act.TheVariants as act
 use Rattle.room_model.specs.declared.event.RoomEvent.{RoomEvent}
@@ -17,7 +17,6 @@ use Rattle.room_model.specs.declared.event.Stage.TheVariants.{Reserved, Joining,
 use Rattle.room_model.specs.Sessions.{Session, session_of, at_stage}
 use Rattle.room_model.specs.Room.{RoomValue, room_step}
 use Rattle.room_laws.specs.Places.{may_happen}
-use Rattle.room_like.specs.Worded.{is_worded_event}
 use Rattle.life_model.specs.Entries.{Entry, Record, Opened, Framed, Told, Ticked, Dropped, Kicked, Lapsed, Sending}
 use Rattle.life_model.specs.Followed.{client_given}
 use Rattle.life_model.specs.Lives.{entry_if, act_entries, tick_entries, is_at, is_live_stage, sees_ticks}
@@ -42,24 +41,29 @@ followed_if schema entries false e suits f = followed_same schema entries f
 
 -- ---- an act
 
-act_follows : (schema : Schema) (entries : Record) (session : List ℕ) (s : Option Session) (a : Act) → may_act a ≡ true → is_worded_act a ≡ true → Followed schema entries → Followed schema (entries ++ act_entries session s a)
-act_follows schema entries session s (act.Send id kind payload) may words f = followed_if schema entries _ (Told (server_bytes (server.Msg kind payload))) (message_taken schema kind payload may words) f
-act_follows schema entries session s (act.Raw id kind payload) may words f = followed_if schema entries _ (Told (server_bytes (server.Raw kind payload))) (raw_taken schema kind payload may words) f
-act_follows schema entries session s (act.ToAll kind payload) may words f = followed_if schema entries _ (Told (server_bytes (server.Msg kind payload))) (message_taken schema kind payload may words) f
-act_follows schema entries session s (act.Kick id code) may words f = followed_if schema entries _ (Kicked code) tt f
-act_follows schema entries session s a may words f = followed_same schema entries f
+act_follows : (schema : Schema) (entries : Record) (session : List ℕ) (s : Option Session) (a : Act) → may_act a ≡ true → has_kept_kind a ≡ true → Followed schema entries → Followed schema (entries ++ act_entries session s a)
+act_follows schema entries session s (act.Send id kind payload) may good f = followed_if schema entries _ (Told (server_bytes (server.Msg kind payload))) (message_taken schema kind payload may good) f
+act_follows schema entries session s (act.Raw id kind payload) may good f = followed_if schema entries _ (Told (server_bytes (server.Raw kind payload))) (raw_taken schema kind payload may good) f
+act_follows schema entries session s (act.ToAll kind payload) may good f = followed_if schema entries _ (Told (server_bytes (server.Msg kind payload))) (message_taken schema kind payload may good) f
+act_follows schema entries session s (act.Kick id code) may good f = followed_if schema entries _ (Kicked code) tt f
+act_follows schema entries session s a may good f = followed_same schema entries f
 
 -- ---- any event but a tick
 
-pub event_follows : (schema : Schema) (r : RoomValue) (e : RoomEvent) (after : RoomValue) (session : List ℕ) (entries : Record) → is_tick e ≡ false → is_worded_event e ≡ true → may_happen r e ≡ true → Followed schema entries
+-- the message of an event's act is about such a kind as a program has
+abbrev pub tells_kept_kind : RoomEvent → Bool
+tells_kept_kind (event.Act a) = has_kept_kind a
+tells_kept_kind e = true
+
+pub event_follows : (schema : Schema) (r : RoomValue) (e : RoomEvent) (after : RoomValue) (session : List ℕ) (entries : Record) → is_tick e ≡ false → tells_kept_kind e ≡ true → may_happen r e ≡ true → Followed schema entries
     → Followed schema (entries ++ room_entries r e after session)
-event_follows schema r (event.Reserve id lapse) after session entries other words may f = followed_same schema entries f
-event_follows schema r (event.Enter id token fresh) after session entries other words may f = followed_if schema entries _ (Opened fresh) tt f
-event_follows schema r (event.Frame id bytes) after session entries other words may f = followed_if schema entries _ (Framed bytes) tt f
-event_follows schema r (event.Lost id now) after session entries other words may f = followed_if schema entries _ (Dropped _) tt f
-event_follows schema r (event.Moment now) after session entries other words may f = followed_if schema entries _ Lapsed tt f
-event_follows schema r (event.Act a) after session entries other words may f = act_follows schema entries session (session_of r.sessions session) a may words f
-event_follows schema r event.Tick after session entries other words may f = cc
+event_follows schema r (event.Reserve id lapse) after session entries other good may f = followed_same schema entries f
+event_follows schema r (event.Enter id token fresh) after session entries other good may f = followed_if schema entries _ (Opened fresh) tt f
+event_follows schema r (event.Frame id bytes) after session entries other good may f = followed_if schema entries _ (Framed bytes) tt f
+event_follows schema r (event.Lost id now) after session entries other good may f = followed_if schema entries _ (Dropped _) tt f
+event_follows schema r (event.Moment now) after session entries other good may f = followed_if schema entries _ Lapsed tt f
+event_follows schema r (event.Act a) after session entries other good may f = act_follows schema entries session (session_of r.sessions session) a may good f
+event_follows schema r event.Tick after session entries other good may f = cc
 
 -- ---- a tick
 

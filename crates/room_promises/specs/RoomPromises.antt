@@ -24,8 +24,8 @@ pub record Keeps (schema : Schema) (def : RoomDef) (x : RoomRun) : Type 0 where
   -- the seats, reservations and kept seats together are at most the places that the room has then
   pub places : in_use x.room.seats ≤ x.room.seats.max
 
--- events that may happen to a new room one after another; their texts are UTF-8 and the numbers of their message kinds have
--- 32 bits, as those of every event do that a program has
+-- events that may happen to a new room one after another; the texts that they put are UTF-8, as those of every event are that
+-- a program has
 pub record CanPlay (schema : Schema) (def : RoomDef) (criteria : List (List ℕ)) (events : List RoomEvent) : Type 0 where
   pub schema_kept : is_kept schema ≡ true
   pub follow : may_follow (new_room schema def criteria) events ≡ true

@@ -1,5 +1,5 @@
 -- Every schedule that has a text can be played, and the three promises hold of its events.
-use Rattle.std.proofs.Common.{◌≡◌, ◌&&◌, ◌||◌, not, ℕ, zero, suc, true, List, [], ◌∷◌, length, map, take, Option, Some, None, refl, sym, ap, ap₂, subst, ◌∙◌, nat_le}
+use Rattle.std.proofs.Common.{◌≡◌, ◌&&◌, ◌||◌, not, ℕ, zero, suc, true, List, [], ◌∷◌, length, map, take, Option, Some, None, Result, refl, sym, ap, ap₂, subst, ◌∙◌, nat_le}
 use Rattle.std.specs.Prelude.{IfSome}
 use Rattle.std.specs.List.{list_all, list_any}
 use Rattle.std.specs.Str.{bytes_eq, is_utf8}
@@ -10,12 +10,16 @@ use Rattle.frame_model.specs.declared.frame.MsgKind.TheVariants as kind
 use Rattle.hub_core.specs.Held.{may_take, most_defs, names_differ}
 use Rattle.hub_model.specs.declared.event.HubEvent.{HubEvent}
 use Rattle.hub_model.specs.declared.event.HubEvent.TheVariants as event
+use Rattle.hub_model.specs.Kinds.{event_has_kept_kind}
 use Rattle.hub_model.specs.Requests.{read_request}
-use Rattle.hub_promises.proofs.HubsKept.{hubs_keep}
-use Rattle.life_model.specs.HubPromises.{HubKeeps, may_come}
+use Rattle.hub_model.specs.declared.request.AskFault.{AskFault}
+use Rattle.hub_model.specs.declared.request.Request.{Request}
+use Rattle.hub_promises.proofs.HubsKept.{hubs_keep, hubs_follow}
+use Rattle.life_model.specs.HubPromises.{HubKeeps, HubFollows, may_come}
+use Rattle.life_model.specs.HubPromises as promises
 use Rattle.life_model.specs.HubLives.{hub_run}
 use Rattle.matchmaker.specs.Bodies.{said_by}
-use Rattle.room_model.specs.Acts.{is_short_kind, is_worded_act, may_act}
+use Rattle.room_model.specs.Acts.{has_kept_kind, is_short_kind, is_worded_act, may_act}
 use Rattle.room_model.specs.Definitions.{is_room_def}
 use Rattle.room_model.specs.declared.definition.RoomDef.{RoomDef}
 use Rattle.room_model.specs.declared.event.Act.{Act}
@@ -92,13 +96,25 @@ acts_worded : (a : Act) → is_act a ≡ true → is_worded_act a ≡ true
 acts_worded (act.State c) h = worded_command c h
 acts_worded (act.ViewAdd s p) h = refl
 acts_worded (act.ViewDel s p) h = refl
-acts_worded (act.Send s k payload) h = kept_kind k (one_kind s k payload h)
-acts_worded (act.Raw s k payload) h = kept_kind k (one_kind s k payload h)
-acts_worded (act.ToAll k payload) h = kept_kind k (and_parts (is_kind k) (are_bytes payload) h).0
+acts_worded (act.Send s k payload) h = refl
+acts_worded (act.Raw s k payload) h = refl
+acts_worded (act.ToAll k payload) h = refl
 acts_worded (act.Kick s code) h = refl
 acts_worded act.Lock h = refl
 acts_worded act.Unlock h = refl
 acts_worded (act.Keep s ms) h = refl
+
+acts_kept : (a : Act) → is_act a ≡ true → has_kept_kind a ≡ true
+acts_kept (act.State c) h = refl
+acts_kept (act.ViewAdd s p) h = refl
+acts_kept (act.ViewDel s p) h = refl
+acts_kept (act.Send s k payload) h = kept_kind k (one_kind s k payload h)
+acts_kept (act.Raw s k payload) h = kept_kind k (one_kind s k payload h)
+acts_kept (act.ToAll k payload) h = kept_kind k (and_parts (is_kind k) (are_bytes payload) h).0
+acts_kept (act.Kick s code) h = refl
+acts_kept act.Lock h = refl
+acts_kept act.Unlock h = refl
+acts_kept (act.Keep s ms) h = refl
 
 event_taken : (e : HubEvent) → is_event e ≡ true → may_take e ≡ true
 event_taken (event.At ms) h = refl
@@ -121,6 +137,16 @@ event_comes (event.Lost conn) h = refl
 event_comes (event.Act room a) h = (let is = (and_parts (is_id room) (is_act a) h).1 in and_from (may_act a) (is_worded_act a) (acts_may a is) (acts_worded a is))
 event_comes (event.Tick room) h = refl
 
+event_kept : (e : HubEvent) → is_event e ≡ true → event_has_kept_kind e ≡ true
+event_kept (event.At ms) h = refl
+event_kept (event.Ask conn target body room session) h = refl
+event_kept (event.Bad conn) h = refl
+event_kept (event.Opening conn target fresh) h = refl
+event_kept (event.Frame conn bytes) h = refl
+event_kept (event.Lost conn) h = refl
+event_kept (event.Act room a) h = acts_kept a (and_parts (is_id room) (is_act a) h).1
+event_kept (event.Tick room) h = refl
+
 all_taken : (es : List HubEvent) → list_all is_event es ≡ true → list_all may_take es ≡ true
 all_taken [] h = refl
 all_taken (e ∷ es) h = (let both = and_parts (is_event e) (list_all is_event es) h in and_from (may_take e) (list_all may_take es) (event_taken e both.0) (all_taken es both.1))
@@ -128,6 +154,10 @@ all_taken (e ∷ es) h = (let both = and_parts (is_event e) (list_all is_event e
 all_come : (es : List HubEvent) → list_all is_event es ≡ true → list_all may_come es ≡ true
 all_come [] h = refl
 all_come (e ∷ es) h = (let both = and_parts (is_event e) (list_all is_event es) h in and_from (may_come e) (list_all may_come es) (event_comes e both.0) (all_come es both.1))
+
+all_kept : (es : List HubEvent) → list_all is_event es ≡ true → list_all event_has_kept_kind es ≡ true
+all_kept [] h = refl
+all_kept (e ∷ es) h = (let both = and_parts (is_event e) (list_all is_event es) h in and_from (event_has_kept_kind e) (list_all event_has_kept_kind es) (event_kept e both.0) (all_kept es both.1))
 
 -- ---- definitions
 
@@ -184,10 +214,16 @@ schedule_plays s h =
 -- ---- the promises
 
 pub schedule_keeps : (s : Schedule) → is_schedule s ≡ true → KeepsPromises s
-schedule_keeps s h =
-    let p = parts_of s h in
-    hubs_keep (λ defs target body. read_request defs target (said_by body)) s.schema s.process s.defs s.events
-    (record { schema_kept = p.kept; forms = p.forms; come = all_come s.events p.events })
+schedule_keeps s h n = (hubs_keep read s.schema s.process s.defs s.events can n, hubs_follow read s.schema s.process s.defs s.events can (all_kept s.events p.events) n)
+  where
+    p : Parts s
+    p = parts_of s h
+
+    read : List RoomDef → List ℕ → List ℕ → Result Request AskFault
+    read defs target body = read_request defs target (said_by body)
+
+    can : promises.CanRun s.schema s.defs s.events
+    can = record { schema_kept = p.kept; forms = p.forms; come = all_come s.events p.events }
 
 -- the first events of the first ones
 taken_again : {X : Type 0} (m n : ℕ) (xs : List X) → (k : ℕ) × (take m (take n xs) ≡ take k xs)
@@ -200,7 +236,7 @@ taken_again (suc m) (suc n) (x ∷ xs) = let rest = taken_again m n xs in (suc r
 first_keeps : (s : Schedule) (es : List HubEvent) (count : ℕ) → Keeps s es → Keeps s (take count es)
 first_keeps s es count keeps n =
     let t = taken_again n count es in
-    subst (λ xs. HubKeeps s.schema (hub_run rules (start s) xs)) (sym t.1) (keeps t.0)
+    subst (λ xs. HubKeeps s.schema (hub_run rules (start s) xs) × HubFollows s.schema (hub_run rules (start s) xs)) (sym t.1) (keeps t.0)
 
 -- whatever was taken, they hold of the events whose outputs were taken whole
 pub taken_keep : (left taken0 taken1 : Option (List ℕ)) → IfSome left (λ text. (s : Schedule) → IsScheduleText text s → KeepsTaken taken0 taken1 s)

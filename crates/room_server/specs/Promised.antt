@@ -1,16 +1,16 @@
--- The three promises of a schedule's events, and of those whose outputs were taken whole.
+-- What is promised of a schedule's events, and of those whose outputs were taken whole.
 use Rattle.std.specs.Prelude.{ℕ, List, ◌++◌, take, Option}
 use Rattle.hub_model.specs.declared.event.HubEvent.{HubEvent}
 use Rattle.life_model.specs.HubLives.{hub_run}
-use Rattle.life_model.specs.HubPromises.{HubKeeps}
+use Rattle.life_model.specs.HubPromises.{HubKeeps, HubFollows}
 use Rattle.outside.specs.Streams.{Takes}
 use Rattle.text_model.specs.declared.schedule.Schedule.{Schedule}
 use Rattle.text_model.specs.SchemaLines.{schema_text}
 use Rattle.room_server.specs.Turns.{rules, start, told}
 
--- the promises hold of these events of a schedule's hub, after every first so many of them
+-- the promises hold of these events of a schedule's hub, after every first so many of them, and a client follows each life
 abbrev pub Keeps : Schedule → List HubEvent → Type 0
-Keeps s events = (n : ℕ) → HubKeeps s.schema (hub_run rules (start s) (take n events))
+Keeps s events = (n : ℕ) → HubKeeps s.schema (hub_run rules (start s) (take n events)) × HubFollows s.schema (hub_run rules (start s) (take n events))
 
 -- they hold of a schedule's events
 abbrev pub KeepsPromises : Schedule → Type 0

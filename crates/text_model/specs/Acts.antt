@@ -9,6 +9,7 @@ use Rattle.schema_model.specs.declared.value.Value.{Value}
 use Rattle.schema_model.specs.declared.value.Value.TheVariants as value
 use Rattle.state_model.specs.declared.command.Command.{Command}
 use Rattle.state_model.specs.declared.command.Command.TheVariants.{Make, MakeFor, Put, Unset, PutKey, DelKey, Push, SetAt, DelAt, Add, Del, Clear}
+use Rattle.frame_model.specs.Kinds.{is_kept_kind}
 use Rattle.frame_model.specs.declared.frame.MsgKind.{MsgKind}
 use Rattle.frame_model.specs.declared.frame.MsgKind.TheVariants as kind
 use Rattle.room_model.specs.Acts.{is_short_kind}
@@ -65,7 +66,7 @@ is_value (value.Link n) = is_ref n
 
 abbrev pub is_kind : MsgKind → Bool
 is_kind (kind.Name t) = is_text t && is_short_kind (kind.Name t)
-is_kind (kind.Num z) = in_signed (2 ^ 31) z
+is_kind (kind.Num z) = is_kept_kind (kind.Num z)
 
 -- the default tag, or 0 to 255
 abbrev pub is_view_tag : ℤ → Bool
