@@ -32,6 +32,7 @@ use Rattle.state_model.specs.Sound.{keys_differ}
 use Rattle.state_model.specs.Worded.{is_worded_command}
 use Rattle.state_model.specs.declared.command.Command.{Command}
 use Rattle.state_model.specs.declared.command.Command.TheVariants as command
+use Rattle.text_model.proofs.Spaced.{all_pass}
 use Rattle.text_model.specs.declared.schedule.Schedule.{Schedule}
 use Rattle.text_model.specs.Acts.{is_act, is_command, is_field_number, is_kind, is_ref, is_value}
 use Rattle.text_model.specs.DefLines.{is_named_def}
@@ -147,25 +148,10 @@ event_kept (event.Lost conn) h = refl
 event_kept (event.Act room a) h = acts_kept a (and_parts (is_id room) (is_act a) h).1
 event_kept (event.Tick room) h = refl
 
-all_taken : (es : List HubEvent) → list_all is_event es ≡ true → list_all may_take es ≡ true
-all_taken [] h = refl
-all_taken (e ∷ es) h = (let both = and_parts (is_event e) (list_all is_event es) h in and_from (may_take e) (list_all may_take es) (event_taken e both.0) (all_taken es both.1))
-
-all_come : (es : List HubEvent) → list_all is_event es ≡ true → list_all may_come es ≡ true
-all_come [] h = refl
-all_come (e ∷ es) h = (let both = and_parts (is_event e) (list_all is_event es) h in and_from (may_come e) (list_all may_come es) (event_comes e both.0) (all_come es both.1))
-
-all_kept : (es : List HubEvent) → list_all is_event es ≡ true → list_all event_has_kept_kind es ≡ true
-all_kept [] h = refl
-all_kept (e ∷ es) h = (let both = and_parts (is_event e) (list_all is_event es) h in and_from (event_has_kept_kind e) (list_all event_has_kept_kind es) (event_kept e both.0) (all_kept es both.1))
-
 -- ---- definitions
 
-all_forms : (ds : List RoomDef) → list_all is_named_def ds ≡ true → list_all is_room_def ds ≡ true
-all_forms [] h = refl
-all_forms (d ∷ ds) h =
-    let both = and_parts (is_named_def d) (list_all is_named_def ds) h in
-    and_from (is_room_def d) (list_all is_room_def ds) (and_parts (list_all is_room_name d.filter) (is_room_def d) (and_parts (is_room_name d.name) _ both.0).1).1 (all_forms ds both.1)
+named_form : (d : RoomDef) → is_named_def d ≡ true → is_room_def d ≡ true
+named_form d h = (and_parts (list_all is_room_name d.filter) (is_room_def d) (and_parts (is_room_name d.name) _ h).1).1
 
 any_name : (name : List ℕ) (ds : List RoomDef) → list_any (bytes_eq name) (map (λ (d : RoomDef). d.name) ds) ≡ list_any (λ (e : RoomDef). bytes_eq name e.name) ds
 any_name name [] = refl
@@ -196,7 +182,7 @@ parts_of s h =
     record {
       kept = (and_parts (is_kept s.schema) _ (and_parts _ _ (and_parts _ _ a.0).0).0).0;
       process = b.0;
-      forms = all_forms s.defs d.0;
+      forms = all_pass is_named_def is_room_def s.defs named_form d.0;
       few = f.0;
       differ = sym (all_differ s.defs) ∙ f.1;
       events = c.1;
@@ -208,13 +194,13 @@ schedule_plays s h =
     record {
       process = p.process;
       defs = and_from (nat_le (length s.defs) most_defs) _ p.few (and_from (list_all is_room_def s.defs) (names_differ s.defs) p.forms p.differ);
-      events = all_taken s.events p.events;
+      events = all_pass is_event may_take s.events event_taken p.events;
     }
 
 -- ---- the promises
 
 pub schedule_keeps : (s : Schedule) → is_schedule s ≡ true → KeepsPromises s
-schedule_keeps s h n = (hubs_keep read s.schema s.process s.defs s.events can n, hubs_follow read s.schema s.process s.defs s.events can (all_kept s.events p.events) n)
+schedule_keeps s h n = (hubs_keep read s.schema s.process s.defs s.events can n, hubs_follow read s.schema s.process s.defs s.events can (all_pass is_event event_has_kept_kind s.events event_kept p.events) n)
   where
     p : Parts s
     p = parts_of s h
@@ -223,7 +209,7 @@ schedule_keeps s h n = (hubs_keep read s.schema s.process s.defs s.events can n,
     read defs target body = read_request defs target (said_by body)
 
     can : promises.CanRun s.schema s.defs s.events
-    can = record { schema_kept = p.kept; forms = p.forms; come = all_come s.events p.events }
+    can = record { schema_kept = p.kept; forms = p.forms; come = all_pass is_event may_come s.events event_comes p.events }
 
 -- the first events of the first ones
 taken_again : {X : Type 0} (m n : ℕ) (xs : List X) → (k : ℕ) × (take m (take n xs) ≡ take k xs)
