@@ -14,7 +14,7 @@ use Rattle.state_model.specs.declared.row.Row.TheVariants.{Struct, Map, Array, S
 use Rattle.state_model.specs.declared.row.RowEntry.{RowEntry}
 use Rattle.state_model.specs.declared.row.FieldValue.{FieldValue}
 use Rattle.state_model.specs.Rows.{row_at}
-use Rattle.state_model.specs.Places.{item_wants, holds_instances, row_home}
+use Rattle.state_model.specs.Places.{item_expects, holds_instances, row_home}
 use Rattle.wire_model.specs.declared.op.OpKey.{OpKey}
 use Rattle.wire_model.specs.declared.op.OpKey.TheVariants.{Field, Item, Named}
 use Rattle.wire_model.specs.declared.op.OpValue.{OpValue}
@@ -22,7 +22,7 @@ use Rattle.wire_model.specs.declared.op.Op.{Op}
 use Rattle.wire_model.specs.declared.op.Op.TheVariants as op
 use Rattle.wire_model.specs.declared.op.Step.TheVariants.{Turn, Do}
 use Rattle.wire_model.specs.OpBytes.{count_bytes, value_bytes, head_bytes, link_number, op_bytes, switch_bytes}
-use Rattle.wire_model.specs.Grammar.{has_add_bit, with_value, is_map, is_array_row, collection_step, holder_step, switch_at, step_at, wants_at}
+use Rattle.wire_model.specs.Grammar.{has_add_bit, with_value, is_map, is_array_row, collection_step, holder_step, switch_at, step_at, expects_at}
 use Rattle.block_laws.specs.Writable.{is_count, is_place, is_named, is_instance, is_carried, is_marked, is_unmarked, is_writable_op}
 use Rattle.block_laws.specs.Fitting.{PlaceFits, key_fits, holds_refs, OpFits}
 use Rattle.block_laws.proofs.Stands.{Stands, stands_behind, byte_there}
@@ -74,11 +74,11 @@ field_op_there schema known holder class fields bytes at o is f w s = cc
 -- ---- on a collection
 
 -- what the items of a collection hold, whatever the key
-wants_item : (schema : Schema) (holder : Row) (home : Home) (key : OpKey) → row_home holder ≡ Some home → wants_at schema holder key ≡ item_wants schema home
+wants_item : (schema : Schema) (holder : Row) (home : Home) (key : OpKey) → row_home holder ≡ Some home → expects_at schema holder key ≡ item_expects schema home
 wants_item schema (Struct class fields) home key is = cc
-wants_item schema (Map a items) home key is = ap (option_and_then (item_wants schema)) is
-wants_item schema (Array a values) home key is = ap (option_and_then (item_wants schema)) is
-wants_item schema (Set a items) home key is = ap (option_and_then (item_wants schema)) is
+wants_item schema (Map a items) home key is = ap (option_and_then (item_expects schema)) is
+wants_item schema (Array a values) home key is = ap (option_and_then (item_expects schema)) is
+wants_item schema (Set a items) home key is = ap (option_and_then (item_expects schema)) is
 
 -- a step on a holder that has a home is one on a collection of it
 on_home : (schema : Schema) (known : List RowEntry) (holder : Row) (home : Home) (bytes : List ℕ) (at byte : ℕ) → row_home holder ≡ Some home
@@ -115,7 +115,7 @@ takes_refs schema holder home is h = subst (λ o. (is_array_row holder && option
 
 -- an operation that puts a value on a collection is read where it stands
 put_there : (schema : Schema) (known : List RowEntry) (who : ℕ) (holder : Row) (home : Home) (bytes : List ℕ) (at code : ℕ) (key : OpKey) (v : OpValue) → PutsItem code
-    → row_at known who ≡ Some holder → row_home holder ≡ Some home → key_fits holder (has_add_bit code) key ≡ true → PlaceFits schema known (has_add_bit code) (wants_at schema holder key) v
+    → row_at known who ≡ Some holder → row_home holder ≡ Some home → key_fits holder (has_add_bit code) key ≡ true → PlaceFits schema known (has_add_bit code) (expects_at schema holder key) v
     → is_place key ≡ true → is_carried v ≡ true → Stands bytes at (head_bytes code key ++ value_bytes v)
     → step_at schema known who bytes at ≡ Ok (Do (with_value code key v), at + length (head_bytes code key ++ value_bytes v))
 put_there schema known who holder home bytes at code (Field i) v p row is k f h t s = let no = no_field holder home (has_add_bit code) i is in cc

@@ -11,8 +11,8 @@ use Rattle.schema_model.proofs.NumberAgain.{number_again}
 use Rattle.schema_model.proofs.ScalarAgain.{scalar_again}
 use Rattle.state_model.specs.declared.row.Row.{Row}
 use Rattle.state_model.specs.declared.row.RowEntry.{RowEntry}
-use Rattle.state_model.specs.declared.place.Wanted.{Wanted}
-use Rattle.state_model.specs.declared.place.Wanted.TheVariants.{Item as AnItem, Collection as ACollection}
+use Rattle.state_model.specs.declared.place.Expected.{Expected}
+use Rattle.state_model.specs.declared.place.Expected.TheVariants.{Item as AnItem, Collection as ACollection}
 use Rattle.state_model.specs.Rows.{row_at}
 use Rattle.state_model.specs.Sound.{is_instance_of, is_collection_of}
 use Rattle.wire_model.specs.declared.op.OpValue.{OpValue}
@@ -28,7 +28,7 @@ use Rattle.block_laws.proofs.Stands.{Stands, stands_first, stands_behind, read_t
 pub count_there : (bytes : List ℕ) (at n : ℕ) → is_count n ≡ true → Stands bytes at (count_bytes n) → count_at bytes at ≡ Ok (n, at + length (count_bytes n))
 unfolding count_at
 count_there bytes at n h s =
-    ap (λ r. as_op_fault r >>= not_negative at) (read_there number_at (count_bytes n) (pos n) (λ front more. number_again front more (pos n) h) bytes at s)
+    ap (λ r. as_op_fault r >>= not_negative at) (read_there number_at (count_bytes n) (pos n) (λ prefix more. number_again prefix more (pos n) h) bytes at s)
 
 -- ---- instances
 
@@ -49,7 +49,7 @@ mark_there : (schema : Schema) (class : ℕ) (bytes : List ℕ) (at n next mark 
 unfolding marked_value
 mark_there schema class bytes at n next mark o fit h s =
     let two = and_parts (nat_lt mark (length schema.classes)) (mark_fits schema class o mark) fit in
-    let read = read_there number_at (count_bytes mark) (pos mark) (λ front more. number_again front more (pos mark) h) bytes (next + 1)
+    let read = read_there number_at (count_bytes mark) (pos mark) (λ prefix more. number_again prefix more (pos mark) h) bytes (next + 1)
     (stands_behind bytes next (213 ∷ []) (count_bytes mark) s) in
     let place : next + 1 + length (count_bytes mark) ≡ next + suc (length (count_bytes mark)) = omega arith in
     rw (read, two.0, two.1, place) refl
@@ -69,7 +69,7 @@ instance_there schema class false bytes at n next (Some mark) o check fit h s = 
 
 -- ---- collections
 
--- a collection of the home that is wanted passes
+-- a collection of the home that is expected passes
 collection_there : (home : Home) (at n next : ℕ) (o : Option Row) → (not (is_some o) || is_collection_of home o) ≡ true
     → collection_value home at (n, next) o ≡ Ok (carried.Coll n, next)
 collection_there home at n next None h = refl
@@ -78,11 +78,11 @@ collection_there home at n next (Some r) h = rw h refl
 -- ---- all values
 
 -- a value that fits is read where it stands
-pub value_there : (schema : Schema) (known : List RowEntry) (adds : Bool) (bytes : List ℕ) (at : ℕ) (wanted : Wanted) (v : OpValue) → ValueFits schema known adds wanted v
-    → is_carried v ≡ true → Stands bytes at (value_bytes v) → value_at schema known adds bytes at wanted ≡ Ok (v, at + length (value_bytes v))
+pub value_there : (schema : Schema) (known : List RowEntry) (adds : Bool) (bytes : List ℕ) (at : ℕ) (expected : Expected) (v : OpValue) → ValueFits schema known adds expected v
+    → is_carried v ≡ true → Stands bytes at (value_bytes v) → value_at schema known adds bytes at expected ≡ Ok (v, at + length (value_bytes v))
 unfolding value_at
 value_there schema known adds bytes at (AnItem (item.Scalar kind)) (carried.Scalar k v) f h s =
-    let read = read_there (λ b a. read_scalar b a k) (spelling k v) v (λ front more. scalar_again k v front more f.1.0 f.1.1) bytes at s in
+    let read = read_there (λ b a. read_scalar b a k) (spelling k v) v (λ prefix more. scalar_again k v prefix more f.1.0 f.1.1) bytes at s in
     subst (λ j. scalar_carried j (read_scalar bytes at j) ≡ Ok (carried.Scalar k v, at + length (spelling k v))) f.0 (ap (scalar_carried k) read)
 value_there schema known adds bytes at (AnItem (item.Class class)) (carried.Struct n mark) f h s =
     let two = and_parts (is_count n) (is_type mark) h in
@@ -94,4 +94,4 @@ value_there schema known adds bytes at (AnItem (item.Class class)) (carried.Stru
     ∙ ap (λ k. Ok (carried.Struct n mark, k)) place)
 value_there schema known adds bytes at (ACollection home) (carried.Coll n) f h s =
     rw (count_there bytes at n h s) (collection_there home at n (at + length (count_bytes n)) (row_at known n) f)
-value_there schema known adds bytes at wanted v f h s = absurd f
+value_there schema known adds bytes at expected v f h s = absurd f

@@ -8,8 +8,8 @@ use Rattle.schema_model.specs.declared.class.Item.TheVariants as item
 use Rattle.state_model.specs.declared.row.Row.{Row}
 use Rattle.state_model.specs.declared.row.Row.TheVariants as row
 use Rattle.state_model.specs.declared.row.RowEntry.{RowEntry}
-use Rattle.state_model.specs.declared.place.Wanted.{Wanted}
-use Rattle.state_model.specs.declared.place.Wanted.TheVariants.{Item as AnItem, Collection as ACollection}
+use Rattle.state_model.specs.declared.place.Expected.{Expected}
+use Rattle.state_model.specs.declared.place.Expected.TheVariants.{Item as AnItem, Collection as ACollection}
 use Rattle.state_model.specs.Rows.{row_at}
 use Rattle.state_model.specs.Places.{holds_instances, row_home}
 use Rattle.state_model.specs.Sound.{is_collection_of}
@@ -21,7 +21,7 @@ use Rattle.wire_model.specs.declared.op.Op.{Op}
 use Rattle.wire_model.specs.declared.op.Op.TheVariants as op
 use Rattle.wire_model.specs.declared.op.Block.{Block}
 use Rattle.wire_model.specs.Edits.{EditBlock}
-use Rattle.wire_model.specs.Grammar.{check_instance, mark_fits, is_array_row, wants_at, resolved, known_after, Readings}
+use Rattle.wire_model.specs.Grammar.{check_instance, mark_fits, is_array_row, expects_at, resolved, known_after, Readings}
 use Rattle.wire_model.specs.Resolved.{holder_kind, known_behind}
 use Rattle.wire_model.specs.Decoded.{edits_of}
 
@@ -32,18 +32,18 @@ marks_fit schema class false known None = true
 marks_fit schema class adds known mark = false
 
 -- a value is what a place is declared to hold: a link may be to a new row, an instance under the ADD bit alone
-abbrev pub ValueFits : Schema → List RowEntry → Bool → Wanted → OpValue → Type 0
+abbrev pub ValueFits : Schema → List RowEntry → Bool → Expected → OpValue → Type 0
 ValueFits schema known adds (AnItem (item.Scalar kind)) (carried.Scalar k v) = (k ≡ kind) × ((fits k v ≡ true) × (is_worded v ≡ true))
 ValueFits schema known adds (AnItem (item.Class class)) (carried.Struct n mark) =
     (check_instance schema class adds 0 (row_at known n) ≡ Ok true) × (marks_fit schema class adds (row_at known n) mark ≡ true)
 ValueFits schema known adds (ACollection home) (carried.Coll n) =
     (not (is_some (row_at known n)) || is_collection_of home (row_at known n)) ≡ true
-ValueFits schema known adds wanted v = ⊥
+ValueFits schema known adds expected v = ⊥
 
 -- a value fits its place, where the place is declared
-abbrev pub PlaceFits : Schema → List RowEntry → Bool → Option Wanted → OpValue → Type 0
+abbrev pub PlaceFits : Schema → List RowEntry → Bool → Option Expected → OpValue → Type 0
 PlaceFits schema known adds None v = ⊥
-PlaceFits schema known adds (Some wanted) v = ValueFits schema known adds wanted v
+PlaceFits schema known adds (Some expected) v = ValueFits schema known adds expected v
 
 -- the form of a key is that of the holder: fields on instances; on a map a text stands beside the number under the ADD bit
 abbrev pub key_fits : Row → Bool → OpKey → Bool
@@ -60,12 +60,12 @@ holds_refs schema holder = is_array_row holder && option_map_or (holds_instances
 
 -- an operation on a holder
 abbrev pub OpFits : Schema → List RowEntry → Row → Op → Type 0
-OpFits schema known holder (op.Add k v) = (key_fits holder true k ≡ true) × PlaceFits schema known true (wants_at schema holder k) v
-OpFits schema known holder (op.Replace k v) = (key_fits holder false k ≡ true) × PlaceFits schema known false (wants_at schema holder k) v
-OpFits schema known holder (op.DeleteAdd k v) = (key_fits holder true k ≡ true) × PlaceFits schema known true (wants_at schema holder k) v
-OpFits schema known holder (op.Delete k) = (key_fits holder false k ≡ true) × (is_some (wants_at schema holder k) ≡ true)
+OpFits schema known holder (op.Add k v) = (key_fits holder true k ≡ true) × PlaceFits schema known true (expects_at schema holder k) v
+OpFits schema known holder (op.Replace k v) = (key_fits holder false k ≡ true) × PlaceFits schema known false (expects_at schema holder k) v
+OpFits schema known holder (op.DeleteAdd k v) = (key_fits holder true k ≡ true) × PlaceFits schema known true (expects_at schema holder k) v
+OpFits schema known holder (op.Delete k) = (key_fits holder false k ≡ true) × (is_some (expects_at schema holder k) ≡ true)
 OpFits schema known holder op.Clear = is_some (row_home holder) ≡ true
-OpFits schema known holder (op.AddByRef v) = (holds_refs schema holder ≡ true) × PlaceFits schema known true (wants_at schema holder (Item 0)) v
+OpFits schema known holder (op.AddByRef v) = (holds_refs schema holder ≡ true) × PlaceFits schema known true (expects_at schema holder (Item 0)) v
 OpFits schema known holder (op.DeleteByRef n) = holds_refs schema holder ≡ true
 
 -- the operations on a holder; each makes its link known to those behind it

@@ -13,7 +13,7 @@ use Rattle.block_laws.specs.Fitting.{BlocksFit}
 use Rattle.byte_laws.proofs.FrameEdits.{frame_edits}
 use Rattle.state_model.specs.Spelled.{are_spelled}
 use Rattle.byte_laws.proofs.PatchBlocks.{blocks_writable}
-use Rattle.byte_laws.proofs.KnownBlocks.{front_fits, front_means}
+use Rattle.byte_laws.proofs.KnownBlocks.{prefix_fits, prefix_means}
 use Rattle.byte_laws.specs.BytesLaw.{shared_blocks, view_blocks}
 use Rattle.byte_laws.proofs.FrameParts.{known_between, parts_of}
 
@@ -35,8 +35,8 @@ frame_fits schema old new kept f old_bytes new_bytes =
     let first = shared_blocks schema old new in
     let last = view_blocks schema old new in
     let left = apply_edits first client in
-    let read = front_fits schema (view_at schema new) p.view_rows last [] (known_between schema old new) (is_live left) p.view_knows p.view_known (follows_patch schema left (view_at schema new)) p.view_fit tt in
-    front_fits schema (shared schema new.rows) p.shared_rows first last (kinds_of client) (is_live (shared schema old.rows)) p.shared_knows p.shared_known
+    let read = prefix_fits schema (view_at schema new) p.view_rows last [] (known_between schema old new) (is_live left) p.view_knows p.view_known (follows_patch schema left (view_at schema new)) p.view_fit tt in
+    prefix_fits schema (shared schema new.rows) p.shared_rows first last (kinds_of client) (is_live (shared schema old.rows)) p.shared_knows p.shared_known
     (follows_patch schema (shared schema old.rows) (shared schema new.rows)) p.shared_fit (subst (λ bs. BlocksFit schema (known_between schema old new) (encoded_blocks bs)) (append-nil last) read)
 
 -- they mean again what they were
@@ -48,7 +48,7 @@ frame_means schema old new kept f old_bytes new_bytes =
     let first = shared_blocks schema old new in
     let last = view_blocks schema old new in
     let left = apply_edits first client in
-    let mean = front_means schema (view_at schema new) p.view_rows last [] (known_between schema old new) (is_live left) p.view_knows p.view_known (follows_patch schema left (view_at schema new)) p.view_fit in
-    front_means schema (shared schema new.rows) p.shared_rows first last (kinds_of client) (is_live (shared schema old.rows)) p.shared_knows p.shared_known
+    let mean = prefix_means schema (view_at schema new) p.view_rows last [] (known_between schema old new) (is_live left) p.view_knows p.view_known (follows_patch schema left (view_at schema new)) p.view_fit in
+    prefix_means schema (shared schema new.rows) p.shared_rows first last (kinds_of client) (is_live (shared schema old.rows)) p.shared_knows p.shared_known
     (follows_patch schema (shared schema old.rows) (shared schema new.rows)) p.shared_fit
     ∙ ap (λ bs. first ++ bs) (ap (λ bs. resolved_blocks schema (known_between schema old new) (encoded_blocks bs)) (sym (append-nil last)) ∙ (mean ∙ append-nil last))

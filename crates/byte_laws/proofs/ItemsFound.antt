@@ -13,7 +13,7 @@ use Rattle.state_model.specs.declared.row.RowEntry.{RowEntry}
 use Rattle.state_model.specs.declared.row.MapItem.{MapItem}
 use Rattle.state_model.specs.declared.row.SetItem.{SetItem}
 use Rattle.state_model.specs.Sound.{keys_differ}
-use Rattle.state_model.specs.Places.{item_wants}
+use Rattle.state_model.specs.Places.{item_expects}
 use Rattle.state_laws.proofs.Passing.{list_any-found}
 use Rattle.wire_model.specs.declared.op.OpKey.{OpKey}
 use Rattle.wire_model.specs.declared.op.OpKey.TheVariants.{Item, Named}
@@ -76,7 +76,7 @@ pub set_found : (schema : Schema) (rows : List RowEntry) (home declared : Home) 
     → ((k : ℕ) (x : SetItem) → find (λ (i : SetItem). i.number) k old ≡ Some x → find (λ (i : SetItem). i.number) k items ≡ Some x)
     → all_found (set_edits schema rows declared old new) (Elements home items) ≡ true
 set_found schema rows home declared old new items rises there =
-    places_found element_number (Elements home) old new Item Item (set_keyed home old new) (λ (i : SetItem). i.value) rows (λ n. item_wants schema declared) items rises there
+    places_found element_number (Elements home) old new Item Item (set_keyed home old new) (λ (i : SetItem). i.value) rows (λ n. item_expects schema declared) items rises there
 
 -- ---- maps
 
@@ -139,4 +139,4 @@ pub map_found : (schema : Schema) (rows : List RowEntry) (home declared : Home) 
     → ((n : ℕ) (x y : MapItem) → map_item old n ≡ Some x → map_item new n ≡ Some y → x.key ≡ y.key) → ((k : ℕ) (x : MapItem) → map_item old k ≡ Some x → map_item items k ≡ Some x)
     → all_found (map_edits schema rows declared old new) (Items home items) ≡ true
 map_found schema rows home declared old new items rises differ same_keys there =
-    places_found number (Items home) old new Item (new_key old new differ same_keys) (map_keyed old new differ same_keys home) (λ (i : MapItem). i.value) rows (λ n. item_wants schema declared) items rises there
+    places_found number (Items home) old new Item (new_key old new differ same_keys) (map_keyed old new differ same_keys home) (λ (i : MapItem). i.value) rows (λ n. item_expects schema declared) items rises there

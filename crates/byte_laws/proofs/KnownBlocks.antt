@@ -13,14 +13,14 @@ use Rattle.state_model.specs.declared.row.Row.TheVariants.{Struct}
 use Rattle.state_model.specs.declared.row.RowEntry.{RowEntry}
 use Rattle.state_model.specs.Rows.{row_at, is_live}
 use Rattle.state_model.specs.Reached.{is_among}
-use Rattle.state_model.specs.declared.place.Wanted.{Wanted}
+use Rattle.state_model.specs.declared.place.Expected.{Expected}
 use Rattle.state_model.specs.Sound.{are_rows_of, fits_place}
 use Rattle.state_laws.proofs.Numbers.{at_live, live_at, live_row, among_both}
 use Rattle.state_laws.proofs.Fitting.{fits_live}
 use Rattle.wire_model.specs.declared.op.OpKey.TheVariants as key
 use Rattle.wire_model.specs.Edits.{Carried, Edit, Add, Replace, DeleteAdd, Delete, Clear, AddByRef, DeleteByRef, EditBlock, encoded, encoded_blocks}
 use Rattle.wire_model.specs.Effect.{carried_by, with_named, with_edits, edited_row, apply_block, apply_edits}
-use Rattle.wire_model.specs.Grammar.{wants_at}
+use Rattle.wire_model.specs.Grammar.{expects_at}
 use Rattle.wire_model.specs.Patch.{kind_in, carried, linked_number, named_in}
 use Rattle.wire_model.specs.Resolved.{holder_kind, resolved_ops, known_behind, resolved_blocks}
 use Rattle.wire_laws.proofs.Bools.{or-none, or_moved, in_either}
@@ -83,24 +83,24 @@ left_lives (b ∷ bs) now known lives n h =
 
 module _ (schema : Schema) (new other : List RowEntry) (kinds : (n : ℕ) → is_live new n ≡ true → kind_in new n ≡ kind_in other n) where
   -- what fits is carried with the kind that its number has in other rows too
-  value_carries : (wanted : Option Wanted) (v : Value) → fits_place schema new v wanted ≡ true → CarriesKind other (Some (carried new wanted v))
-  value_carries wanted (Whole z) h = tt
-  value_carries wanted (Str t) h = tt
-  value_carries wanted (Truth b) h = tt
-  value_carries wanted (Link n) h = kinds n (fits_live schema new n (Link n) wanted h (grind (arith, nat_tests)))
+  value_carries : (expected : Option Expected) (v : Value) → fits_place schema new v expected ≡ true → CarriesKind other (Some (carried new expected v))
+  value_carries expected (Whole z) h = tt
+  value_carries expected (Str t) h = tt
+  value_carries expected (Truth b) h = tt
+  value_carries expected (Link n) h = kinds n (fits_live schema new n (Link n) expected h (grind (arith, nat_tests)))
 
   -- so is what is put
-  puts_carry : (wanted : Option Wanted) (c : Carried) → Puts schema new wanted c → CarriesKind other (Some c)
-  puts_carry wanted c p = subst (λ x. CarriesKind other (Some x)) (sym p.is) (value_carries wanted p.value p.fit)
+  puts_carry : (expected : Option Expected) (c : Carried) → Puts schema new expected c → CarriesKind other (Some c)
+  puts_carry expected c p = subst (λ x. CarriesKind other (Some x)) (sym p.is) (value_carries expected p.value p.fit)
 
   -- and what an operation that fits carries
   edit_carries : (holder : Row) (e : Edit) → EditFits schema new holder e → CarriesKind other (carried_by e)
-  edit_carries holder (Add k c) f = puts_carry (wants_at schema holder k) c f.2
-  edit_carries holder (Replace k c) f = puts_carry (wants_at schema holder k) c f.2
-  edit_carries holder (DeleteAdd k c) f = puts_carry (wants_at schema holder k) c f.2
+  edit_carries holder (Add k c) f = puts_carry (expects_at schema holder k) c f.2
+  edit_carries holder (Replace k c) f = puts_carry (expects_at schema holder k) c f.2
+  edit_carries holder (DeleteAdd k c) f = puts_carry (expects_at schema holder k) c f.2
   edit_carries holder (Delete k) f = tt
   edit_carries holder Clear f = tt
-  edit_carries holder (AddByRef c) f = puts_carry (wants_at schema holder (key.Item 0)) c f.1
+  edit_carries holder (AddByRef c) f = puts_carry (expects_at schema holder (key.Item 0)) c f.1
   edit_carries holder (DeleteByRef n) f = tt
 
   -- operations that fit carry the kinds of other rows, where these have the new ones' kinds
@@ -142,20 +142,20 @@ module _ (schema : Schema) (new : List RowEntry) (rows : are_rows_of schema new 
   -- ---- blocks
 
   -- blocks that fit are read before others, where each holder is known or named before and the others are read behind them
-  pub front_fits : (bs cs : List EditBlock) (known : List RowEntry) (there : ℕ → Bool) → Knows new known → ((n : ℕ) → there n ≡ true → is_live known n ≡ true) → Follows there bs
+  pub prefix_fits : (bs cs : List EditBlock) (known : List RowEntry) (there : ℕ → Bool) → Knows new known → ((n : ℕ) → there n ≡ true → is_live known n ≡ true) → Follows there bs
       → Each (BlockFits schema new) bs → BlocksFit schema (known_past bs known) (encoded_blocks cs) → BlocksFit schema known (encoded_blocks (bs ++ cs))
-  front_fits [] cs known there k lives f fit rest = rest
-  front_fits (b ∷ bs) cs known there k lives f fit rest =
+  prefix_fits [] cs known there k lives f fit rest = rest
+  prefix_fits (b ∷ bs) cs known there k lives f fit rest =
       let read = block_reads known b k (lives b.holder f.0) fit.0 in
-      let behind = front_fits bs cs (known_with b.edits known) (λ n. there n || is_among n (named_in b.edits)) (past_knows known b k fit.0) (past_lives b known there lives) f.1 fit.1 rest in
+      let behind = prefix_fits bs cs (known_with b.edits known) (λ n. there n || is_among n (named_in b.edits)) (past_knows known b k fit.0) (past_lives b known there lives) f.1 fit.1 rest in
       (live_there known b.holder (lives b.holder f.0), (read.0, subst (λ rows. BlocksFit schema rows (encoded_blocks (bs ++ cs))) (sym read.2) behind))
 
   -- and they mean again what they were
-  pub front_means : (bs cs : List EditBlock) (known : List RowEntry) (there : ℕ → Bool) → Knows new known → ((n : ℕ) → there n ≡ true → is_live known n ≡ true) → Follows there bs
+  pub prefix_means : (bs cs : List EditBlock) (known : List RowEntry) (there : ℕ → Bool) → Knows new known → ((n : ℕ) → there n ≡ true → is_live known n ≡ true) → Follows there bs
       → Each (BlockFits schema new) bs → resolved_blocks schema known (encoded_blocks (bs ++ cs)) ≡ bs ++ resolved_blocks schema (known_past bs known) (encoded_blocks cs)
-  front_means [] cs known there k lives f fit = refl
-  front_means (b ∷ bs) cs known there k lives f fit =
+  prefix_means [] cs known there k lives f fit = refl
+  prefix_means (b ∷ bs) cs known there k lives f fit =
       let read = block_reads known b k (lives b.holder f.0) fit.0 in
-      let behind = front_means bs cs (known_with b.edits known) (λ n. there n || is_among n (named_in b.edits)) (past_knows known b k fit.0) (past_lives b known there lives) f.1 fit.1 in
+      let behind = prefix_means bs cs (known_with b.edits known) (λ n. there n || is_among n (named_in b.edits)) (past_knows known b k fit.0) (past_lives b known there lives) f.1 fit.1 in
       ap (λ es. block_on b.holder es ∷ resolved_blocks schema (known_behind schema (holder_kind known b.holder) known (map encoded b.edits)) (encoded_blocks (bs ++ cs))) read.1
       ∙ (ap (λ rows. b ∷ resolved_blocks schema rows (encoded_blocks (bs ++ cs))) read.2 ∙ ap (λ xs. b ∷ xs) behind)

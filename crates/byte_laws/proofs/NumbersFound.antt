@@ -8,7 +8,7 @@ use Rattle.lists.specs.Rising.{RisesFrom, find}
 use Rattle.schema_model.specs.declared.value.Value.{Value}
 use Rattle.state_model.specs.declared.row.RowEntry.{RowEntry}
 use Rattle.state_model.specs.Values.{same_value, is_link}
-use Rattle.state_model.specs.declared.place.Wanted.{Wanted}
+use Rattle.state_model.specs.declared.place.Expected.{Expected}
 use Rattle.state_model.specs.Reached.{is_among}
 use Rattle.state_laws.proofs.Numbers.{rises_with}
 use Rattle.wire_model.specs.declared.op.OpKey.{OpKey}
@@ -54,7 +54,7 @@ module _ {E : Type 0} (key : E → ℕ) (wrap : List E → Body) (old new : List
     pub replaces : (u : ℕ) (us : List ℕ) (es : List E) (x : E) (c : Carried) → is_among u us ≡ false → Waiting (u ∷ us) es → find key u es ≡ Some x → Passes us es (Replace (place u) c ∷ [])
     pub deletes : (u : ℕ) (us : List ℕ) (es : List E) → is_among u us ≡ false → Waiting (u ∷ us) es → Passes us es (Delete (place u) ∷ [])
 
-  module _ (place named : ℕ → OpKey) (laws : Keyed place named) (value : E → Value) (rows : List RowEntry) (wanted : ℕ → Option Wanted) where
+  module _ (place named : ℕ → OpKey) (laws : Keyed place named) (value : E → Value) (rows : List RowEntry) (expected : ℕ → Option Expected) where
     -- the operation on a place that has another value
     change_passes : (u : ℕ) (us : List ℕ) (es : List E) (x y : E) (c : Carried) → is_among u us ≡ false → Waiting (u ∷ us) es → find key u old ≡ Some x → find key u new ≡ Some y
         → (link : Bool) → is_link (value y) ≡ link → Passes us es (changed_place (place u) (named u) (value y) c ∷ [])
@@ -63,19 +63,19 @@ module _ {E : Type 0} (key : E → ℕ) (wrap : List E → Body) (old new : List
 
     -- the operations at a number, by whether it is in old and in new
     place_passes : (u : ℕ) (us : List ℕ) (es : List E) (o n : Option E) → is_among u us ≡ false → Waiting (u ∷ us) es → find key u old ≡ o → find key u new ≡ n
-        → Passes us es (place_edit (place u) (named u) rows (wanted u) (option_map value o) (option_map value n))
+        → Passes us es (place_edit (place u) (named u) rows (expected u) (option_map value o) (option_map value n))
     place_passes u us es None None apart w o n = none_passes u us es w
-    place_passes u us es None (Some y) apart w o n = laws.adds u us es y (carried rows (wanted u) (value y)) apart w n
+    place_passes u us es None (Some y) apart w o n = laws.adds u us es y (carried rows (expected u) (value y)) apart w n
     place_passes u us es (Some x) None apart w o n = laws.deletes u us es apart w
     place_passes u us es (Some x) (Some y) apart w o n = by (same_value (value x) (value y))
       where
-        by : (same : Bool) → Passes us es (cond same [] (changed_place (place u) (named u) (value y) (carried rows (wanted u) (value y)) ∷ []))
+        by : (same : Bool) → Passes us es (cond same [] (changed_place (place u) (named u) (value y) (carried rows (expected u) (value y)) ∷ []))
         by true = none_passes u us es w
-        by false = change_passes u us es x y (carried rows (wanted u) (value y)) apart w o n (is_link (value y)) refl
+        by false = change_passes u us es x y (carried rows (expected u) (value y)) apart w o n (is_link (value y)) refl
 
     -- the operations at a number
     abbrev edits_at : ℕ → List Edit
-    edits_at u = place_edit (place u) (named u) rows (wanted u) (option_map value (find key u old)) (option_map value (find key u new))
+    edits_at u = place_edit (place u) (named u) rows (expected u) (option_map value (find key u old)) (option_map value (find key u new))
 
     -- the operations at all of some numbers
     numbers_found : (us : List ℕ) (low : ℕ) (es : List E) → RisesFrom (λ n. n) low us → Waiting us es → all_found (flat_map edits_at us) (wrap es) ≡ true

@@ -11,7 +11,7 @@ use Rattle.wire_laws.proofs.EncodedBlocks.{follows_patch}
 use Rattle.block_laws.specs.Writable.{are_writable}
 use Rattle.byte_laws.specs.BytesLaw.{PartsHaveBytes, shared_blocks, view_blocks}
 use Rattle.byte_laws.proofs.PatchBlocks.{blocks_writable}
-use Rattle.byte_laws.proofs.KnownBlocks.{front_means}
+use Rattle.byte_laws.proofs.KnownBlocks.{prefix_means}
 use Rattle.byte_laws.proofs.FrameParts.{parts_of}
 
 pub parts_have_bytes : PartsHaveBytes
@@ -20,7 +20,7 @@ parts_have_bytes schema old new kept f old_bytes new_bytes =
     let client = view_at schema old in
     let first = shared_blocks schema old new in
     let last = view_blocks schema old new in
-    let mean = front_means schema (shared schema new.rows) p.shared_rows first [] (kinds_of client) (is_live (shared schema old.rows)) p.shared_knows p.shared_known
+    let mean = prefix_means schema (shared schema new.rows) p.shared_rows first [] (kinds_of client) (is_live (shared schema old.rows)) p.shared_knows p.shared_known
     (follows_patch schema (shared schema old.rows) (shared schema new.rows)) p.shared_fit in
     let means = ap (λ bs. apply_edits bs client) (ap (λ bs. resolved_blocks schema (kinds_of client) (encoded_blocks bs)) (sym (append-nil first)) ∙ (mean ∙ append-nil first)) in
     record {

@@ -14,15 +14,15 @@ use Rattle.state_model.specs.declared.row.Row.TheVariants.{Struct, Map, Array, S
 use Rattle.state_model.specs.declared.row.RowEntry.{RowEntry}
 use Rattle.state_model.specs.Values.{is_link}
 use Rattle.state_model.specs.Rows.{row_at, emptied}
-use Rattle.state_model.specs.declared.place.Wanted.{Wanted}
-use Rattle.state_model.specs.declared.place.Wanted.TheVariants.{Item as AnItem, Collection as ACollection}
+use Rattle.state_model.specs.declared.place.Expected.{Expected}
+use Rattle.state_model.specs.declared.place.Expected.TheVariants.{Item as AnItem, Collection as ACollection}
 use Rattle.state_model.specs.Places.{row_class}
 use Rattle.state_model.specs.Sound.{are_rows_of, has_kind, fits_place, is_instance_of, is_collection_of}
 use Rattle.state_laws.proofs.Numbers.{at_live}
 use Rattle.state_laws.proofs.Fitting.{fits_live, fits_no_link}
 use Rattle.state_laws.proofs.RowsOf.{rows_fit}
 use Rattle.wire_model.specs.Edits.{Carried, Edit, Add, Replace, DeleteAdd, Delete, Clear, AddByRef, DeleteByRef, encoded_link, encoded_value, encoded}
-use Rattle.wire_model.specs.Grammar.{wants_at, known_after, check_instance}
+use Rattle.wire_model.specs.Grammar.{expects_at, known_after, check_instance}
 use Rattle.wire_model.specs.Patch.{carried}
 use Rattle.wire_model.specs.declared.op.OpKey.TheVariants as key
 use Rattle.wire_laws.proofs.KindLaws.{kind_of}
@@ -68,8 +68,8 @@ collection_fits schema known home n (Set a items) knows h = collection_known kno
 -- ---- values
 
 -- a scalar as it is told
-scalar_fits : (schema : Schema) (new known : List RowEntry) (wanted : Option Wanted) (v : Value) (adds : Bool) → is_link v ≡ false → fits_place schema new v wanted ≡ true → is_spelled_value v ≡ true
-    → PlaceFits schema known adds wanted (encoded_value adds (carried new wanted v))
+scalar_fits : (schema : Schema) (new known : List RowEntry) (expected : Option Expected) (v : Value) (adds : Bool) → is_link v ≡ false → fits_place schema new v expected ≡ true → is_spelled_value v ≡ true
+    → PlaceFits schema known adds expected (encoded_value adds (carried new expected v))
 scalar_fits schema new known None v adds l h s = absurd (cc)
 scalar_fits schema new known (Some (AnItem (item.Scalar k))) (Whole z) adds l h s = (refl, (h, s))
 scalar_fits schema new known (Some (AnItem (item.Scalar k))) (Str t) adds l h s = (refl, (h, s))
@@ -80,45 +80,45 @@ scalar_fits schema new known (Some (AnItem (item.Class c))) (Truth b) adds l h s
 scalar_fits schema new known (Some (ACollection home)) (Whole z) adds l h s = absurd (cc)
 scalar_fits schema new known (Some (ACollection home)) (Str t) adds l h s = absurd (cc)
 scalar_fits schema new known (Some (ACollection home)) (Truth b) adds l h s = absurd (cc)
-scalar_fits schema new known wanted (Link n) adds l h s = absurd (cc)
+scalar_fits schema new known expected (Link n) adds l h s = absurd (cc)
 
 -- a link that is told of a row of its kind
-link_fits : (schema : Schema) (new known : List RowEntry) (wanted : Option Wanted) (n : ℕ) (r : Row) → ((x : Row) → row_at known n ≡ Some x → x ≡ emptied r) → row_at new n ≡ Some r
-    → has_kind schema r ≡ true → fits_place schema new (Link n) wanted ≡ true → PlaceFits schema known true wanted (encoded_link true n (row_class (emptied r)))
+link_fits : (schema : Schema) (new known : List RowEntry) (expected : Option Expected) (n : ℕ) (r : Row) → ((x : Row) → row_at known n ≡ Some x → x ≡ emptied r) → row_at new n ≡ Some r
+    → has_kind schema r ≡ true → fits_place schema new (Link n) expected ≡ true → PlaceFits schema known true expected (encoded_link true n (row_class (emptied r)))
 link_fits schema new known None n r knows is kind h = absurd (cc)
 link_fits schema new known (Some (AnItem (item.Scalar k))) n r knows is kind h = absurd (let no = fits_no_link k n in cc)
 link_fits schema new known (Some (AnItem (item.Class c))) n r knows is kind h = instance_fits schema known c n r (row_at known n) refl knows kind (ap (is_instance_of schema c) (sym is) ∙ h)
 link_fits schema new known (Some (ACollection home)) n r knows is kind h = collection_fits schema known home n r knows (ap (is_collection_of home) (sym is) ∙ h)
 
 -- a value as it is told under an operation that adds
-added_fits : (schema : Schema) (new known : List RowEntry) (wanted : Option Wanted) (v : Value) → are_rows_of schema new ≡ true → Knows new known → fits_place schema new v wanted ≡ true
-    → is_spelled_value v ≡ true → PlaceFits schema known true wanted (encoded_value true (carried new wanted v))
-added_fits schema new known wanted (Whole z) rows k h s = scalar_fits schema new known wanted (Whole z) true refl h s
-added_fits schema new known wanted (Str t) rows k h s = scalar_fits schema new known wanted (Str t) true refl h s
-added_fits schema new known wanted (Truth b) rows k h s = scalar_fits schema new known wanted (Truth b) true refl h s
-added_fits schema new known wanted (Link n) rows k h s =
-    let live = fits_live schema new n (Link n) wanted h (grind (arith, nat_tests)) in
+added_fits : (schema : Schema) (new known : List RowEntry) (expected : Option Expected) (v : Value) → are_rows_of schema new ≡ true → Knows new known → fits_place schema new v expected ≡ true
+    → is_spelled_value v ≡ true → PlaceFits schema known true expected (encoded_value true (carried new expected v))
+added_fits schema new known expected (Whole z) rows k h s = scalar_fits schema new known expected (Whole z) true refl h s
+added_fits schema new known expected (Str t) rows k h s = scalar_fits schema new known expected (Str t) true refl h s
+added_fits schema new known expected (Truth b) rows k h s = scalar_fits schema new known expected (Truth b) true refl h s
+added_fits schema new known expected (Link n) rows k h s =
+    let live = fits_live schema new n (Link n) expected h (grind (arith, nat_tests)) in
     let r = at_live new n live in
     let kind = kind_of new n r.0 r.1 in
-    subst (λ x. PlaceFits schema known true wanted (encoded_link true n (row_class x))) (sym kind)
-    (link_fits schema new known wanted n r.0 (λ x is. k.kinds n x is live ∙ kind) r.1 (rows_fit schema new rows n r.0 r.1).0 h)
+    subst (λ x. PlaceFits schema known true expected (encoded_link true n (row_class x))) (sym kind)
+    (link_fits schema new known expected n r.0 (λ x is. k.kinds n x is live ∙ kind) r.1 (rows_fit schema new rows n r.0 r.1).0 h)
 
 -- ---- operations
 
 module _ (schema : Schema) (new : List RowEntry) (holder : Row) (rows : are_rows_of schema new ≡ true) where
   -- what an operation that adds puts
-  puts_fit : (known : List RowEntry) (wanted : Option Wanted) (c : Carried) → Knows new known → Puts schema new wanted c → PlaceFits schema known true wanted (encoded_value true c)
-  puts_fit known wanted c k p = subst (λ x. PlaceFits schema known true wanted (encoded_value true x)) (sym p.is) (added_fits schema new known wanted p.value rows k p.fit p.spelled)
+  puts_fit : (known : List RowEntry) (expected : Option Expected) (c : Carried) → Knows new known → Puts schema new expected c → PlaceFits schema known true expected (encoded_value true c)
+  puts_fit known expected c k p = subst (λ x. PlaceFits schema known true expected (encoded_value true x)) (sym p.is) (added_fits schema new known expected p.value rows k p.fit p.spelled)
 
   -- an operation that fits its holder
   edit_read : (known : List RowEntry) (e : Edit) → Knows new known → EditFits schema new holder e → OpFits schema known holder (encoded e)
-  edit_read known (Add j c) k f = (f.0, puts_fit known (wants_at schema holder j) c k f.2)
+  edit_read known (Add j c) k f = (f.0, puts_fit known (expects_at schema holder j) c k f.2)
   edit_read known (Replace j c) k f =
-      (f.0, subst (λ x. PlaceFits schema known false (wants_at schema holder j) (encoded_value false x)) (sym f.2.is) (scalar_fits schema new known (wants_at schema holder j) f.2.value false f.3 f.2.fit f.2.spelled))
-  edit_read known (DeleteAdd j c) k f = (f.0, puts_fit known (wants_at schema holder j) c k f.2)
+      (f.0, subst (λ x. PlaceFits schema known false (expects_at schema holder j) (encoded_value false x)) (sym f.2.is) (scalar_fits schema new known (expects_at schema holder j) f.2.value false f.3 f.2.fit f.2.spelled))
+  edit_read known (DeleteAdd j c) k f = (f.0, puts_fit known (expects_at schema holder j) c k f.2)
   edit_read known (Delete j) k f = (f.0, f.2)
   edit_read known Clear k f = f
-  edit_read known (AddByRef c) k f = (f.0, puts_fit known (wants_at schema holder (key.Item 0)) c k f.1)
+  edit_read known (AddByRef c) k f = (f.0, puts_fit known (expects_at schema holder (key.Item 0)) c k f.1)
   edit_read known (DeleteByRef n) k f = f.0
 
   -- all that fit, one behind another

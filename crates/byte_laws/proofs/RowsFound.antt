@@ -9,7 +9,7 @@ use Rattle.state_model.specs.declared.row.Row.TheVariants.{Struct, Map, Array, S
 use Rattle.state_model.specs.declared.row.RowEntry.{RowEntry}
 use Rattle.state_model.specs.declared.row.FieldValue.{FieldValue}
 use Rattle.state_model.specs.Rows.{emptied}
-use Rattle.state_model.specs.Places.{field_wants, is_filtered, same_kind}
+use Rattle.state_model.specs.Places.{field_expects, is_filtered, same_kind}
 use Rattle.state_laws.proofs.Passing.{length-filter_most}
 use Rattle.state_laws.proofs.SharedWithin.{Within}
 use Rattle.wire_model.specs.declared.op.OpKey.TheVariants.{Field}
@@ -61,7 +61,7 @@ refs_found schema rows declared old new c =
 fields_found : (schema : Schema) (rows : List RowEntry) (class : ℕ) (old new : List FieldValue) (c : Row) → all_found (field_edits schema rows class old new) (opened c) ≡ true
 fields_found schema rows class old new c =
     all_free_found (field_edits schema rows class old new) (opened c)
-    (places_pass is_free Field Field rows (field_wants schema class) (field_value old) (field_value new) (either_number (map (λ (f : FieldValue). f.field) old) (map (λ (f : FieldValue). f.field) new))
+    (places_pass is_free Field Field rows (field_expects schema class) (field_value old) (field_value new) (either_number (map (λ (f : FieldValue). f.field) old) (map (λ (f : FieldValue). f.field) new))
     (λ n. refl) (λ n v e. (refl, refl, refl)))
 
 -- those on an array, filtered or not

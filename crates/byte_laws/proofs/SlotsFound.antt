@@ -10,8 +10,8 @@ use Rattle.schema_model.specs.declared.value.Value.{Value}
 use Rattle.schema_model.specs.declared.place.Home.{Home}
 use Rattle.state_model.specs.declared.row.RowEntry.{RowEntry}
 use Rattle.state_model.specs.Values.{same_value, is_link}
-use Rattle.state_model.specs.declared.place.Wanted.{Wanted}
-use Rattle.state_model.specs.Places.{item_wants}
+use Rattle.state_model.specs.declared.place.Expected.{Expected}
+use Rattle.state_model.specs.Places.{item_expects}
 use Rattle.wire_model.specs.declared.op.OpKey.TheVariants.{Item}
 use Rattle.wire_model.specs.Edits.{Edit, Carried, carried_value}
 use Rattle.wire_model.specs.Effect.{Slots, effect, put_slot, add_slot, is_present_at}
@@ -38,7 +38,7 @@ add_grows p v slots h = by ((p == 0) && is_present_at slots 0)
 
 -- ---- the operations at one position
 
-module _ (home : Home) (rows : List RowEntry) (wanted : Option Wanted) where
+module _ (home : Home) (rows : List RowEntry) (expected : Option Expected) where
   -- operations find their position, and the slots reach to the next one
   pub record Reaches (p : ℕ) (slots : List (Option Value)) (edits : List Edit) : Type 0 where
     pub found : all_found edits (Slots home slots) ≡ true
@@ -57,24 +57,24 @@ module _ (home : Home) (rows : List RowEntry) (wanted : Option Wanted) where
 
   -- the operations at a position, by what stands there in old and in new
   place_reaches : (p : ℕ) (slots : List (Option Value)) (o n : Option Value) → p ≤ length slots → (is_some o ≡ true → p < length slots) → (is_some o || is_some n) ≡ true
-      → Reaches p slots (place_edit (Item p) (Item p) rows wanted o n)
+      → Reaches p slots (place_edit (Item p) (Item p) rows expected o n)
   place_reaches p slots None None h within one = absurd cc
   place_reaches p slots None (Some v) h within one =
-      let c = carried rows wanted v in record { found = and_from _ _ (reached_found p slots h) refl; next = add_slot p (carried_value c) slots; leads = refl; grows = add_grows p (carried_value c) slots h }
+      let c = carried rows expected v in record { found = and_from _ _ (reached_found p slots h) refl; next = add_slot p (carried_value c) slots; leads = refl; grows = add_grows p (carried_value c) slots h }
   place_reaches p slots (Some u) None h within one =
       record { found = refl; next = set slots p None; leads = refl; grows = (omega (arith, within refl, length-set slots p None), omega (arith, length-set slots p None)) }
   place_reaches p slots (Some u) (Some v) h within one = by (same_value u v)
     where
-      by : (same : Bool) → Reaches p slots (cond same [] (changed_place (Item p) (Item p) v (carried rows wanted v) ∷ []))
+      by : (same : Bool) → Reaches p slots (cond same [] (changed_place (Item p) (Item p) v (carried rows expected v) ∷ []))
       by true = record { found = refl; next = slots; leads = refl; grows = (omega (arith, within refl), omega arith) }
-      by false = change_reaches p slots v (carried rows wanted v) h (is_link v) refl
+      by false = change_reaches p slots v (carried rows expected v) h (is_link v) refl
 
   -- ---- all positions
 
   module _ (old new : List Value) where
     -- the operations at a position
     abbrev edits_at : ℕ → List Edit
-    edits_at p = place_edit (Item p) (Item p) rows wanted (slice_get old p) (slice_get new p)
+    edits_at p = place_edit (Item p) (Item p) rows expected (slice_get old p) (slice_get new p)
 
     -- below the longer of the two lengths, one of the two has a value
     one_there : (p : ℕ) → p < max (length old) (length new) → (is_some (slice_get old p) || is_some (slice_get new p)) ≡ true
@@ -97,4 +97,4 @@ module _ (home : Home) (rows : List RowEntry) (wanted : Option Wanted) where
 -- the operations by position find their positions in slots that are at least as many as the old items
 pub slots_found : (schema : Schema) (rows : List RowEntry) (home declared : Home) (old new : List Value) (slots : List (Option Value)) → length old ≤ length slots
     → all_found (slot_edits schema rows declared old new) (Slots home slots) ≡ true
-slots_found schema rows home declared old new slots long = positions_found home rows (item_wants schema declared) old new (max (length old) (length new)) 0 slots (omega arith) long (omega arith)
+slots_found schema rows home declared old new slots long = positions_found home rows (item_expects schema declared) old new (max (length old) (length new)) 0 slots (omega arith) long (omega arith)

@@ -20,9 +20,9 @@ use Rattle.state_model.specs.declared.row.RowEntry.{RowEntry}
 use Rattle.state_model.specs.declared.row.MapItem.{MapItem}
 use Rattle.state_model.specs.declared.row.SetItem.{SetItem}
 use Rattle.state_model.specs.Rows.{number_of, row_at}
-use Rattle.state_model.specs.declared.place.Wanted.{Wanted}
-use Rattle.state_model.specs.declared.place.Wanted.TheVariants.{Item as AnItem}
-use Rattle.state_model.specs.Places.{wanted_of, field_wants, item_wants, row_home, same_kind, collection_of, empty_collection}
+use Rattle.state_model.specs.declared.place.Expected.{Expected}
+use Rattle.state_model.specs.declared.place.Expected.TheVariants.{Item as AnItem}
+use Rattle.state_model.specs.Places.{expected_of, field_expects, item_expects, row_home, same_kind, collection_of, empty_collection}
 use Rattle.state_model.specs.Sound.{fits_place, has_kind}
 use Rattle.state_laws.proofs.Numbers.{entry, row_found}
 use Rattle.state_laws.proofs.Tests.{all-found}
@@ -73,10 +73,10 @@ kept_limits schema h =
     (grind (arith, nat_tests, first), λ class. count_small schema.classes (Some class) ends.1)
 
 -- a field that is declared is one of the first 63
-pub wants_small : (schema : Schema) (class i : ℕ) → is_kept schema ≡ true → is_some (field_wants schema class i) ≡ true → nat_lt i 63 ≡ true
+pub wants_small : (schema : Schema) (class i : ℕ) → is_kept schema ≡ true → is_some (field_expects schema class i) ≡ true → nat_lt i 63 ≡ true
 wants_small schema class i kept h = by_field (slice_get (fields_of schema class) i) refl h
   where
-    by_field : (o : Option Declared) → slice_get (fields_of schema class) i ≡ o → is_some (option_map (wanted_of i) o) ≡ true → nat_lt i 63 ≡ true
+    by_field : (o : Option Declared) → slice_get (fields_of schema class) i ≡ o → is_some (option_map (expected_of i) o) ≡ true → nat_lt i 63 ≡ true
     by_field None is h = cc
     by_field (Some d) is h =
         let within : i < length (fields_of schema class) = slice_get_within (fields_of schema class) i d is in
@@ -85,13 +85,13 @@ wants_small schema class i kept h = by_field (slice_get (fields_of schema class)
         grind (arith, nat_tests, less)
 
 -- a value fits a place that is declared alone
-pub fits_some : (schema : Schema) (rows : List RowEntry) (v : Value) (wanted : Option Wanted) → fits_place schema rows v wanted ≡ true → is_some wanted ≡ true
+pub fits_some : (schema : Schema) (rows : List RowEntry) (v : Value) (expected : Option Expected) → fits_place schema rows v expected ≡ true → is_some expected ≡ true
 fits_some schema rows v None h = cc
 fits_some schema rows v (Some w) h = refl
 
 -- so are the items of a home that declares a collection of a row's kind
-declared_items : (schema : Schema) (r : Row) (a home : Home) → a ≡ home → option_map_or (same_kind r) (empty_collection schema a) false ≡ true → is_some (item_wants schema home) ≡ true
-declared_items schema r a home same h = subst (λ x. is_some (item_wants schema x) ≡ true) same (by_field (home_field schema a) h)
+declared_items : (schema : Schema) (r : Row) (a home : Home) → a ≡ home → option_map_or (same_kind r) (empty_collection schema a) false ≡ true → is_some (item_expects schema home) ≡ true
+declared_items schema r a home same h = subst (λ x. is_some (item_expects schema x) ≡ true) same (by_field (home_field schema a) h)
   where
     by_field : (o : Option FieldDecl) → option_map_or (same_kind r) (option_and_then (λ (f : FieldDecl). collection_of a f.shape) o) false ≡ true
         → is_some (option_map (λ (f : FieldDecl). AnItem (item_of f.shape)) o) ≡ true
@@ -99,8 +99,8 @@ declared_items schema r a home same h = subst (λ x. is_some (item_wants schema 
     by_field (Some f) h = refl
 
 -- the items of a collection of a declared kind are declared
-pub items_wanted : (schema : Schema) (r : Row) (home : Home) → has_kind schema r ≡ true → row_home r ≡ Some home → is_some (item_wants schema home) ≡ true
-items_wanted schema (Struct class fields) home h is = cc
-items_wanted schema (Map a items) home h is = let same : a ≡ home = cc in declared_items schema (Map a items) a home same h
-items_wanted schema (Array a values) home h is = let same : a ≡ home = cc in declared_items schema (Array a values) a home same h
-items_wanted schema (Set a items) home h is = let same : a ≡ home = cc in declared_items schema (Set a items) a home same h
+pub items_expected : (schema : Schema) (r : Row) (home : Home) → has_kind schema r ≡ true → row_home r ≡ Some home → is_some (item_expects schema home) ≡ true
+items_expected schema (Struct class fields) home h is = cc
+items_expected schema (Map a items) home h is = let same : a ≡ home = cc in declared_items schema (Map a items) a home same h
+items_expected schema (Array a values) home h is = let same : a ≡ home = cc in declared_items schema (Array a values) a home same h
+items_expected schema (Set a items) home h is = let same : a ≡ home = cc in declared_items schema (Set a items) a home same h

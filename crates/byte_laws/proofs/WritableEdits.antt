@@ -18,18 +18,18 @@ use Rattle.state_model.specs.declared.row.Row.TheVariants.{Struct, Map, Array, S
 use Rattle.state_model.specs.declared.row.RowEntry.{RowEntry}
 use Rattle.state_model.specs.Values.{is_link}
 use Rattle.state_model.specs.Rows.{row_at, emptied}
-use Rattle.state_model.specs.declared.place.Wanted.{Wanted}
-use Rattle.state_model.specs.declared.place.Wanted.TheVariants.{Item as AnItem, Collection as ACollection}
-use Rattle.state_model.specs.Places.{item_wants, holds_instances, instance_class, row_class}
-use Rattle.state_model.specs.Sound.{are_rows_of, has_kind, fits_place, fits_wanted, is_instance_of}
+use Rattle.state_model.specs.declared.place.Expected.{Expected}
+use Rattle.state_model.specs.declared.place.Expected.TheVariants.{Item as AnItem, Collection as ACollection}
+use Rattle.state_model.specs.Places.{item_expects, holds_instances, instance_class, row_class}
+use Rattle.state_model.specs.Sound.{are_rows_of, has_kind, fits_place, fits_expected, is_instance_of}
 use Rattle.state_laws.proofs.Numbers.{at_live}
 use Rattle.state_laws.proofs.Fitting.{fits_live}
 use Rattle.state_laws.proofs.RowsOf.{rows_fit}
 use Rattle.wire_model.specs.declared.op.OpKey.{OpKey}
 use Rattle.wire_model.specs.declared.op.OpKey.TheVariants as key
 use Rattle.wire_model.specs.Edits.{Carried, Edit, Add, Replace, DeleteAdd, Delete, Clear, AddByRef, DeleteByRef, encoded_link, encoded_value, encoded}
-use Rattle.wire_model.specs.Grammar.{wants_at}
-use Rattle.wire_model.specs.Patch.{kind_wanted, carried}
+use Rattle.wire_model.specs.Grammar.{expects_at}
+use Rattle.wire_model.specs.Patch.{kind_expected, carried}
 use Rattle.wire_laws.proofs.KindLaws.{kind_of}
 use Rattle.block_laws.specs.Writable.{is_count, is_place, is_named, is_carried, is_marked, is_unmarked, is_instance, is_writable_op}
 use Rattle.block_laws.specs.Fitting.{key_fits, holds_refs}
@@ -40,7 +40,7 @@ use Rattle.byte_laws.proofs.EditFits.{Puts, EditFits}
 -- ---- values
 
 -- a value that is no link and fits its place fits the place's kind
-pub kind_fits : (schema : Schema) (rows : List RowEntry) (wanted : Option Wanted) (v : Value) → is_link v ≡ false → fits_place schema rows v wanted ≡ true → fits (kind_wanted wanted) v ≡ true
+pub kind_fits : (schema : Schema) (rows : List RowEntry) (expected : Option Expected) (v : Value) → is_link v ≡ false → fits_place schema rows v expected ≡ true → fits (kind_expected expected) v ≡ true
 kind_fits schema rows None v l h = cc
 kind_fits schema rows (Some (AnItem (item.Scalar k))) v l h = h
 kind_fits schema rows (Some (AnItem (item.Class c))) (Whole z) l h = cc
@@ -53,12 +53,12 @@ kind_fits schema rows (Some (ACollection home)) (Truth b) l h = cc
 kind_fits schema rows (Some (ACollection home)) (Link n) l h = cc
 
 -- a scalar as it is told
-scalar_writable : (schema : Schema) (new : List RowEntry) (wanted : Option Wanted) (v : Value) (adds : Bool) → is_link v ≡ false → fits_place schema new v wanted ≡ true
-    → (is_carried (encoded_value adds (carried new wanted v)) ≡ true) × (is_marked (encoded_value adds (carried new wanted v)) ≡ true) × (is_unmarked (encoded_value adds (carried new wanted v)) ≡ true)
-scalar_writable schema new wanted (Whole z) adds l h = (kind_fits schema new wanted (Whole z) l h, refl, refl)
-scalar_writable schema new wanted (Str t) adds l h = (kind_fits schema new wanted (Str t) l h, refl, refl)
-scalar_writable schema new wanted (Truth b) adds l h = (kind_fits schema new wanted (Truth b) l h, refl, refl)
-scalar_writable schema new wanted (Link n) adds l h = cc
+scalar_writable : (schema : Schema) (new : List RowEntry) (expected : Option Expected) (v : Value) (adds : Bool) → is_link v ≡ false → fits_place schema new v expected ≡ true
+    → (is_carried (encoded_value adds (carried new expected v)) ≡ true) × (is_marked (encoded_value adds (carried new expected v)) ≡ true) × (is_unmarked (encoded_value adds (carried new expected v)) ≡ true)
+scalar_writable schema new expected (Whole z) adds l h = (kind_fits schema new expected (Whole z) l h, refl, refl)
+scalar_writable schema new expected (Str t) adds l h = (kind_fits schema new expected (Str t) l h, refl, refl)
+scalar_writable schema new expected (Truth b) adds l h = (kind_fits schema new expected (Truth b) l h, refl, refl)
+scalar_writable schema new expected (Link n) adds l h = cc
 
 -- a link as it is told under an operation that adds
 link_writable : (schema : Schema) (n : ℕ) (r : Row) → is_kept schema ≡ true → has_kind schema r ≡ true → is_count n ≡ true
@@ -72,14 +72,14 @@ link_writable schema n (Array home values) kept kind small = (small, refl)
 link_writable schema n (Set home items) kept kind small = (small, refl)
 
 -- a value as it is told under an operation that adds
-added_writable : (schema : Schema) (new : List RowEntry) (wanted : Option Wanted) (v : Value) → is_kept schema ≡ true → are_rows_of schema new ≡ true
-    → fits_place schema new v wanted ≡ true → is_spelled_value v ≡ true
-    → (is_carried (encoded_value true (carried new wanted v)) ≡ true) × (is_marked (encoded_value true (carried new wanted v)) ≡ true)
-added_writable schema new wanted (Whole z) kept rows h s = let w = scalar_writable schema new wanted (Whole z) true refl h in (w.0, w.1)
-added_writable schema new wanted (Str t) kept rows h s = let w = scalar_writable schema new wanted (Str t) true refl h in (w.0, w.1)
-added_writable schema new wanted (Truth b) kept rows h s = let w = scalar_writable schema new wanted (Truth b) true refl h in (w.0, w.1)
-added_writable schema new wanted (Link n) kept rows h s =
-    let r = at_live new n (fits_live schema new n (Link n) wanted h (grind (arith, nat_tests))) in
+added_writable : (schema : Schema) (new : List RowEntry) (expected : Option Expected) (v : Value) → is_kept schema ≡ true → are_rows_of schema new ≡ true
+    → fits_place schema new v expected ≡ true → is_spelled_value v ≡ true
+    → (is_carried (encoded_value true (carried new expected v)) ≡ true) × (is_marked (encoded_value true (carried new expected v)) ≡ true)
+added_writable schema new expected (Whole z) kept rows h s = let w = scalar_writable schema new expected (Whole z) true refl h in (w.0, w.1)
+added_writable schema new expected (Str t) kept rows h s = let w = scalar_writable schema new expected (Str t) true refl h in (w.0, w.1)
+added_writable schema new expected (Truth b) kept rows h s = let w = scalar_writable schema new expected (Truth b) true refl h in (w.0, w.1)
+added_writable schema new expected (Link n) kept rows h s =
+    let r = at_live new n (fits_live schema new n (Link n) expected h (grind (arith, nat_tests))) in
     let encoded_is = ap (λ x. encoded_link true n (row_class x)) (kind_of new n r.0 r.1) in
     let w = link_writable schema n r.0 kept (rows_fit schema new rows n r.0 r.1).0 s in
     (ap is_carried encoded_is ∙ w.0, ap is_marked encoded_is ∙ w.1)
@@ -95,7 +95,7 @@ class_encoded schema class n (Some (Array home values)) h = cc
 class_encoded schema class n (Some (Set home items)) h = cc
 
 -- what fits where instances are held is told as an instance
-item_encoded : (schema : Schema) (new : List RowEntry) (i : Item) (v : Value) → is_some (instance_class i) ≡ true → fits_wanted schema new (AnItem i) v ≡ true
+item_encoded : (schema : Schema) (new : List RowEntry) (i : Item) (v : Value) → is_some (instance_class i) ≡ true → fits_expected schema new (AnItem i) v ≡ true
     → is_instance (encoded_value true (carried new (Some (AnItem i)) v)) ≡ true
 item_encoded schema new (item.Scalar k) v holds h = cc
 item_encoded schema new (item.Class c) (Link n) holds h = class_encoded schema c n (row_at new n) h
@@ -104,8 +104,8 @@ item_encoded schema new (item.Class c) (Str t) holds h = cc
 item_encoded schema new (item.Class c) (Truth b) holds h = cc
 
 -- so it is where a home's items are instances
-instance_encoded : (schema : Schema) (new : List RowEntry) (home : Home) (v : Value) → holds_instances schema home ≡ true → fits_place schema new v (item_wants schema home) ≡ true
-    → is_instance (encoded_value true (carried new (item_wants schema home) v)) ≡ true
+instance_encoded : (schema : Schema) (new : List RowEntry) (home : Home) (v : Value) → holds_instances schema home ≡ true → fits_place schema new v (item_expects schema home) ≡ true
+    → is_instance (encoded_value true (carried new (item_expects schema home) v)) ≡ true
 instance_encoded schema new home v holds h = by_field (home_field schema home) holds h
   where
     by_field : (o : Option FieldDecl) → is_some (option_and_then (λ (f : FieldDecl). instance_class (item_of f.shape)) o) ≡ true
@@ -115,8 +115,8 @@ instance_encoded schema new home v holds h = by_field (home_field schema home) h
     by_field (Some f) holds h = item_encoded schema new (item_of f.shape) v holds h
 
 -- the same for a holder that may have operations by reference
-ref_encoded : (schema : Schema) (new : List RowEntry) (holder : Row) (v : Value) → holds_refs schema holder ≡ true → fits_place schema new v (wants_at schema holder (key.Item 0)) ≡ true
-    → is_instance (encoded_value true (carried new (wants_at schema holder (key.Item 0)) v)) ≡ true
+ref_encoded : (schema : Schema) (new : List RowEntry) (holder : Row) (v : Value) → holds_refs schema holder ≡ true → fits_place schema new v (expects_at schema holder (key.Item 0)) ≡ true
+    → is_instance (encoded_value true (carried new (expects_at schema holder (key.Item 0)) v)) ≡ true
 ref_encoded schema new (Struct class fields) v holds h = cc
 ref_encoded schema new (Map home items) v holds h = cc
 ref_encoded schema new (Array home values) v holds h = instance_encoded schema new home v holds h
@@ -135,22 +135,22 @@ unnamed (Set home items) (key.Named n name) h = cc
 
 module _ (schema : Schema) (new : List RowEntry) (holder : Row) (kept : is_kept schema ≡ true) (rows : are_rows_of schema new ≡ true) where
   -- what an operation that adds puts
-  puts_writable : (wanted : Option Wanted) (c : Carried) → Puts schema new wanted c → (is_carried (encoded_value true c) && is_marked (encoded_value true c)) ≡ true
-  puts_writable wanted c p =
-      let w = added_writable schema new wanted p.value kept rows p.fit p.spelled in
+  puts_writable : (expected : Option Expected) (c : Carried) → Puts schema new expected c → (is_carried (encoded_value true c) && is_marked (encoded_value true c)) ≡ true
+  puts_writable expected c p =
+      let w = added_writable schema new expected p.value kept rows p.fit p.spelled in
       ap (λ x. is_carried (encoded_value true x) && is_marked (encoded_value true x)) p.is ∙ and_from _ _ w.0 w.1
 
   -- an operation that fits has bytes
   edit_writable : (e : Edit) → EditFits schema new holder e → is_writable_op (encoded e) ≡ true
-  edit_writable (Add k c) f = and_from (is_place k) _ f.1 (puts_writable (wants_at schema holder k) c f.2)
+  edit_writable (Add k c) f = and_from (is_place k) _ f.1 (puts_writable (expects_at schema holder k) c f.2)
   edit_writable (Replace k c) f =
-      let w = scalar_writable schema new (wants_at schema holder k) f.2.value false f.3 f.2.fit in
+      let w = scalar_writable schema new (expects_at schema holder k) f.2.value false f.3 f.2.fit in
       and_from _ _ (and_from (is_place k) (not (is_named k)) f.1 (unnamed holder k f.0)) (ap (λ x. is_carried (encoded_value false x) && is_unmarked (encoded_value false x)) f.2.is ∙ and_from _ _ w.0 w.2)
-  edit_writable (DeleteAdd k c) f = and_from (is_place k) _ f.1 (puts_writable (wants_at schema holder k) c f.2)
+  edit_writable (DeleteAdd k c) f = and_from (is_place k) _ f.1 (puts_writable (expects_at schema holder k) c f.2)
   edit_writable (Delete k) f = and_from (is_place k) (not (is_named k)) f.1 (unnamed holder k f.0)
   edit_writable Clear f = refl
   edit_writable (AddByRef c) f =
-      and_from (is_instance (encoded_value true c)) _ (ap (λ x. is_instance (encoded_value true x)) f.1.is ∙ ref_encoded schema new holder f.1.value f.0 f.1.fit) (puts_writable (wants_at schema holder (key.Item 0)) c f.1)
+      and_from (is_instance (encoded_value true c)) _ (ap (λ x. is_instance (encoded_value true x)) f.1.is ∙ ref_encoded schema new holder f.1.value f.0 f.1.fit) (puts_writable (expects_at schema holder (key.Item 0)) c f.1)
   edit_writable (DeleteByRef n) f = f.1
 
   -- so have all that fit

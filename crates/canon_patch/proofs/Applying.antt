@@ -12,8 +12,8 @@ use Rattle.schema_model.specs.declared.class.FieldDecl.{FieldDecl}
 use Rattle.schema_model.specs.declared.class.Shape.{Shape}
 use Rattle.schema_model.specs.declared.class.Shape.TheVariants as shape
 use Rattle.schema_model.specs.declared.place.Home.{Home}
-use Rattle.state_model.specs.declared.place.Wanted.{Wanted}
-use Rattle.state_model.specs.declared.place.Wanted.TheVariants.{Item as AnItem, Collection as ACollection}
+use Rattle.state_model.specs.declared.place.Expected.{Expected}
+use Rattle.state_model.specs.declared.place.Expected.TheVariants.{Item as AnItem, Collection as ACollection}
 use Rattle.state_model.specs.Places.{collection_of}
 use Rattle.state_model.specs.declared.row.Row.{Row}
 use Rattle.state_model.specs.declared.row.Row.TheVariants as row
@@ -30,7 +30,7 @@ use Rattle.wire_model.specs.declared.op.Block.{Block}
 use Rattle.wire_model.specs.Edits.{Carried, Linked}
 use Rattle.wire_model.specs.Effect.{Body, effect, opened, closed, edited_row, carried_by, with_linked, with_named, with_edits, apply_block, apply_edits}
 use Rattle.wire_model.specs.Frame.{patch}
-use Rattle.wire_model.specs.Grammar.{resolved, resolved_value, known_after, new_instance, new_collection, wants_at}
+use Rattle.wire_model.specs.Grammar.{resolved, resolved_value, known_after, new_instance, new_collection, expects_at}
 use Rattle.wire_model.specs.Resolved.{holder_kind, resolved_ops, known_behind, resolved_blocks, applied}
 use Rattle.wire_ops.specs.PlainEdits.{plain_edit}
 use Rattle.wire_ops.proofs.EffectLaws.{same_effect}
@@ -119,9 +119,9 @@ linked_known rows n fresh rises kind =
     ] in rw (row_at-kinds_of rows n) (go (row_at rows n) refl (is_live rows n) refl)
 
 -- a fresh instance and a fresh collection have no places
-instance_empty : (mark : Option ℕ) (wanted : Option Wanted) → emptied (new_instance mark wanted) ≡ new_instance mark wanted
-instance_empty None wanted = refl
-instance_empty (Some class) wanted = refl
+instance_empty : (mark : Option ℕ) (expected : Option Expected) → emptied (new_instance mark expected) ≡ new_instance mark expected
+instance_empty None expected = refl
+instance_empty (Some class) expected = refl
 
 shaped_empty : (home : Home) (shape : Shape) → let r = option_map_or (λ r. r) (collection_of home shape) (row.Array home []) in emptied r ≡ r
 shaped_empty home (shape.One i) = refl
@@ -129,7 +129,7 @@ shaped_empty home (shape.Map i) = refl
 shaped_empty home (shape.Array i) = refl
 shaped_empty home (shape.Set i) = refl
 
-collection_empty : (schema : Schema) (wanted : Option Wanted) → emptied (new_collection schema wanted) ≡ new_collection schema wanted
+collection_empty : (schema : Schema) (expected : Option Expected) → emptied (new_collection schema expected) ≡ new_collection schema expected
 collection_empty schema None = refl
 collection_empty schema (Some (AnItem i)) = refl
 collection_empty schema (Some (ACollection home)) =
@@ -139,28 +139,28 @@ collection_empty schema (Some (ACollection home)) =
     ] in go (home_field schema home)
 
 -- the kinds of the rows with what a value leads to
-value_known : (schema : Schema) (wanted : Option Wanted) (v : OpValue) (rows : List RowEntry) → RisesFrom number_of 0 rows →
-    kinds_of (with_linked (resolved_value schema (kinds_of rows) wanted v) rows) ≡ with_known (Some (resolved_value schema (kinds_of rows) wanted v)) (kinds_of rows)
-value_known schema wanted (carried.Scalar kind v) rows rises = refl
-value_known schema wanted (carried.Struct n mark) rows rises = linked_known rows n (new_instance mark wanted) rises (instance_empty mark wanted)
-value_known schema wanted (carried.Coll n) rows rises = linked_known rows n (new_collection schema wanted) rises (collection_empty schema wanted)
+value_known : (schema : Schema) (expected : Option Expected) (v : OpValue) (rows : List RowEntry) → RisesFrom number_of 0 rows →
+    kinds_of (with_linked (resolved_value schema (kinds_of rows) expected v) rows) ≡ with_known (Some (resolved_value schema (kinds_of rows) expected v)) (kinds_of rows)
+value_known schema expected (carried.Scalar kind v) rows rises = refl
+value_known schema expected (carried.Struct n mark) rows rises = linked_known rows n (new_instance mark expected) rises (instance_empty mark expected)
+value_known schema expected (carried.Coll n) rows rises = linked_known rows n (new_collection schema expected) rises (collection_empty schema expected)
 
 -- what is added for a value that leads to an instance, and for one that leads to a collection
-pub struct_linked : (schema : Schema) (rows : List RowEntry) (wanted : Option Wanted) (v : OpValue) (n : ℕ) (mark : Option ℕ) (fresh : Row) → v ≡ carried.Struct n mark → fresh ≡ new_instance mark wanted →
-    (if is_live rows n then rows else put_row n fresh rows) ≡ with_linked (resolved_value schema (kinds_of rows) wanted v) rows
-struct_linked schema rows wanted v n mark fresh is made = rw (is, made) (linked_fresh rows n (new_instance mark wanted))
+pub struct_linked : (schema : Schema) (rows : List RowEntry) (expected : Option Expected) (v : OpValue) (n : ℕ) (mark : Option ℕ) (fresh : Row) → v ≡ carried.Struct n mark → fresh ≡ new_instance mark expected →
+    (if is_live rows n then rows else put_row n fresh rows) ≡ with_linked (resolved_value schema (kinds_of rows) expected v) rows
+struct_linked schema rows expected v n mark fresh is made = rw (is, made) (linked_fresh rows n (new_instance mark expected))
 
-pub coll_linked : (schema : Schema) (rows : List RowEntry) (wanted : Option Wanted) (v : OpValue) (n : ℕ) (fresh : Row) → v ≡ carried.Coll n → fresh ≡ new_collection schema wanted →
-    (if is_live rows n then rows else put_row n fresh rows) ≡ with_linked (resolved_value schema (kinds_of rows) wanted v) rows
-coll_linked schema rows wanted v n fresh is made = rw (is, made) (linked_fresh rows n (new_collection schema wanted))
+pub coll_linked : (schema : Schema) (rows : List RowEntry) (expected : Option Expected) (v : OpValue) (n : ℕ) (fresh : Row) → v ≡ carried.Coll n → fresh ≡ new_collection schema expected →
+    (if is_live rows n then rows else put_row n fresh rows) ≡ with_linked (resolved_value schema (kinds_of rows) expected v) rows
+coll_linked schema rows expected v n fresh is made = rw (is, made) (linked_fresh rows n (new_collection schema expected))
 
 -- after an operation the known kinds are those of the rows with its link
 pub link_known : (schema : Schema) (holder : Row) (o : Op) (rows : List RowEntry) → RisesFrom number_of 0 rows →
     kinds_of (with_link schema holder o rows) ≡ known_after (resolved schema (kinds_of rows) holder o) (kinds_of rows)
-link_known schema holder (op.Add k v) rows rises = value_known schema (wants_at schema holder k) v rows rises ∙ sym (after_carried (resolved schema (kinds_of rows) holder (op.Add k v)) (kinds_of rows))
-link_known schema holder (op.Replace k v) rows rises = value_known schema (wants_at schema holder k) v rows rises ∙ sym (after_carried (resolved schema (kinds_of rows) holder (op.Replace k v)) (kinds_of rows))
-link_known schema holder (op.DeleteAdd k v) rows rises = value_known schema (wants_at schema holder k) v rows rises ∙ sym (after_carried (resolved schema (kinds_of rows) holder (op.DeleteAdd k v)) (kinds_of rows))
-link_known schema holder (op.AddByRef v) rows rises = value_known schema (wants_at schema holder (Item 0)) v rows rises ∙ sym (after_carried (resolved schema (kinds_of rows) holder (op.AddByRef v)) (kinds_of rows))
+link_known schema holder (op.Add k v) rows rises = value_known schema (expects_at schema holder k) v rows rises ∙ sym (after_carried (resolved schema (kinds_of rows) holder (op.Add k v)) (kinds_of rows))
+link_known schema holder (op.Replace k v) rows rises = value_known schema (expects_at schema holder k) v rows rises ∙ sym (after_carried (resolved schema (kinds_of rows) holder (op.Replace k v)) (kinds_of rows))
+link_known schema holder (op.DeleteAdd k v) rows rises = value_known schema (expects_at schema holder k) v rows rises ∙ sym (after_carried (resolved schema (kinds_of rows) holder (op.DeleteAdd k v)) (kinds_of rows))
+link_known schema holder (op.AddByRef v) rows rises = value_known schema (expects_at schema holder (Item 0)) v rows rises ∙ sym (after_carried (resolved schema (kinds_of rows) holder (op.AddByRef v)) (kinds_of rows))
 link_known schema holder (op.Delete k) rows rises = refl
 link_known schema holder op.Clear rows rises = refl
 link_known schema holder (op.DeleteByRef n) rows rises = refl

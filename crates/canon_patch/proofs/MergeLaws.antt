@@ -14,12 +14,12 @@ use Rattle.canon_patch.specs.Merge.{least_number, behind}
 put_behind : (x : ℕ) (xs : List ℕ) (m : ℕ) → x < m → with_number (x ∷ xs) m ≡ x ∷ with_number xs m
 put_behind x xs m h = grind (arith, nat_tests)
 
--- a lesser number goes in front of it
+-- a lesser number goes before it
 put_before : (x : ℕ) (xs : List ℕ) (m : ℕ) → m < x → with_number (x ∷ xs) m ≡ m ∷ x ∷ xs
 put_before x xs m h = grind (arith, nat_tests)
 
 module _ {E : Type 0} (key : E → ℕ) where
-  -- a number below all others stays in front
+  -- a number below all others stays before it
   first_stays : (x : ℕ) (xs : List ℕ) (es : List E) (low : ℕ) → RisesFrom key low es → x < low → with_numbers (x ∷ xs) (map key es) ≡ x ∷ with_numbers xs (map key es)
   first_stays x xs [] low r h = refl
   first_stays x xs (e ∷ es) low r h =

@@ -3,7 +3,7 @@ use Rattle.std.specs.Prelude.{◌≡◌, ℕ, Bool, true, false, List, [], ◌�
 use Rattle.schema_model.specs.declared.value.Value.{Value}
 use Rattle.schema_model.specs.declared.value.Value.TheVariants.{Link}
 use Rattle.state_model.specs.declared.row.RowEntry.{RowEntry}
-use Rattle.state_model.specs.declared.place.Wanted.{Wanted}
+use Rattle.state_model.specs.declared.place.Expected.{Expected}
 use Rattle.state_model.specs.Reached.{is_among}
 use Rattle.state_model.specs.Values.{same_value}
 use Rattle.wire_model.specs.declared.op.Op.{Op}
@@ -35,9 +35,9 @@ abbrev pub gone_encoded : List Value → Value → List Op
 gone_encoded others v = if stands_in others v then [] else map encoded (drop_edit v)
 
 -- ADD_BY_REFID of a value
-abbrev pub push_encoded : List RowEntry → Option Wanted → Value → Op
-push_encoded rows wanted v = encoded (AddByRef (carried rows wanted v))
+abbrev pub push_encoded : List RowEntry → Option Expected → Value → Op
+push_encoded rows expected v = encoded (AddByRef (carried rows expected v))
 
 -- ADD_BY_REFID of a value that came
-abbrev pub come_encoded : List RowEntry → Option Wanted → List Value → Value → List Op
-come_encoded rows wanted others v = if stands_in others v then [] else push_encoded rows wanted v ∷ []
+abbrev pub come_encoded : List RowEntry → Option Expected → List Value → Value → List Op
+come_encoded rows expected others v = if stands_in others v then [] else push_encoded rows expected v ∷ []

@@ -23,7 +23,7 @@ use wire_ops::Holder;
 /// The rows after blocks: each operation is done to its holder, and the rows that it links to are there,
 /// empty where they weren't. Nothing is freed.
 ///
-/// It is near-linear in the rows, their places and the operations. `Err` is want of memory.
+/// It is near-linear in the rows, their places and the operations. `Err` is out of memory.
 #[tactic(auto, using(crate::proofs::Applying::patch_freed))]
 pub fn apply_blocks(
     alloc: Global,

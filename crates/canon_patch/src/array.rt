@@ -1,17 +1,17 @@
 //! The operations on an array: by position, or by reference where it is filtered.
 ghost use Rattle.std.specs.Prelude.{◌≡◌, ◌≤◌, ◌++◌, ◌^◌, IsTrue, OnOk, Some, length, map, option_copied, slice_get};
 ghost use Rattle.schema_model.specs.declared.class.Item.TheVariants.{Scalar};
-ghost use Rattle.state_model.specs.declared.place.Wanted.TheVariants.{Item as AnItem};
+ghost use Rattle.state_model.specs.declared.place.Expected.TheVariants.{Item as AnItem};
 ghost use Rattle.state_model.specs.declared.row.Row.TheVariants.{Array};
 ghost use Rattle.wire_model.specs.Edits.{encoded};
 ghost use Rattle.wire_model.specs.Patch.{array_edits, is_short, slot_edits};
 ghost use Rattle.canon_patch.specs.Encoded.{first_encoded};
 
 use crate::by_ref::push_by_ref;
-use crate::place::{kind_wanted, push_place};
+use crate::place::{kind_expected, push_place};
 use crate::target::Target;
 use schema_model::{Home, Memory, ScalarKind, Value};
-use state_model::{Values, is_filtered, item_wants};
+use state_model::{Values, is_filtered, item_expects};
 use wire_model::{OpKey, Ops};
 
 // The operations on an array.
@@ -46,7 +46,7 @@ fn push_slots(
     requires new { length new.now ≤ 2 ^ 31 }
     ensures { OnOk result (ops.new ≡ ops.old ++ map encoded (slot_edits to.now.schema.now to.now.rows.now home old.now new.now)) }
 {
-    let kind = kind_wanted(item_wants(to.schema, home));
+    let kind = kind_expected(item_expects(to.schema, home));
     let count = old.len().max(new.len()) as u32;
     push_first(to, ops, kind, old, new, count)
 }

@@ -25,7 +25,7 @@ use wire_model::{Block, Blocks, Ops};
 /// new row whole, in the order in which the operations first name them. An array that goes by position has at most 2^31
 /// values, and had where it was there (`have_positions`).
 ///
-/// It is near-linear in the rows and their places. `Err` is want of memory.
+/// It is near-linear in the rows and their places. `Err` is out of memory.
 #[tactic(auto, using(crate::proofs::Encoded::patch_encoded))]
 pub fn patch(alloc: Global, schema: &Schema, old: &Rows, new: &Rows) -> Result<Blocks, Memory>
     requires { IsTrue (have_positions schema.now old.now new.now) }

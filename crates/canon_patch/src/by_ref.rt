@@ -3,7 +3,7 @@ ghost use Rattle.std.specs.Prelude.{◌≡◌, ◌++◌, ◌||◌, ◌∷◌, []
 ghost use Rattle.std.specs.List.{flat_map};
 ghost use Rattle.schema_model.specs.declared.class.Item.TheVariants.{Scalar};
 ghost use Rattle.schema_model.specs.declared.value.Value.TheVariants.{Link};
-ghost use Rattle.state_model.specs.declared.place.Wanted.TheVariants.{Item as AnItem};
+ghost use Rattle.state_model.specs.declared.place.Expected.TheVariants.{Item as AnItem};
 ghost use Rattle.state_model.specs.Reached.{is_among};
 ghost use Rattle.state_model.specs.Values.{same_value};
 ghost use Rattle.wire_model.specs.Edits.{encoded};
@@ -11,11 +11,11 @@ ghost use Rattle.wire_model.specs.Patch.{drop_edit, gone_of, kept_of, ref_edits,
 ghost use Rattle.canon_patch.specs.ByRef.{AreLinksOf, after_all, after_first, come_encoded, gone_encoded, is_ended, push_encoded};
 
 use crate::marks::add_number;
-use crate::place::{kind_wanted, value_encoded};
+use crate::place::{kind_expected, value_encoded};
 use crate::target::Target;
 use plain_rows::NumberSet;
 use schema_model::{Home, Memory, ScalarKind, Value};
-use state_model::item_wants;
+use state_model::item_expects;
 use std::alloc::Global;
 use wire_model::{Op, Ops};
 
@@ -31,7 +31,7 @@ pub(crate) fn push_by_ref(
 ) -> Result<(), Memory>
     ensures { OnOk result (ops.new ≡ ops.old ++ map encoded (ref_edits to.now.schema.now to.now.rows.now home old.now new.now)) }
 {
-    let kind = kind_wanted(item_wants(to.schema, home));
+    let kind = kind_expected(item_expects(to.schema, home));
     let old_links = links_of(to.alloc, old)?;
     let new_links = links_of(to.alloc, new)?;
     if is_appended(old, &old_links, new, &new_links) {

@@ -8,10 +8,10 @@ ghost use Rattle.wire_model.specs.Patch.{field_edits};
 ghost use Rattle.canon_patch.specs.Encoded.{field_encoded, index_of};
 
 use crate::numbers::either_numbers;
-use crate::place::{kind_wanted, push_place};
+use crate::place::{kind_expected, push_place};
 use crate::target::Target;
 use schema_model::{Memory, TypeNum, Value};
-use state_model::{FieldValue, FieldValues, field_wants};
+use state_model::{FieldValue, FieldValues, field_expects};
 use wire_model::{OpKey, Ops};
 
 // The operations on the fields, rising.
@@ -61,7 +61,7 @@ fn push_field(
     let Some(index) = index_of(before, after) else {
         return Ok(());
     };
-    let kind = kind_wanted(field_wants(to.schema, *class, index));
+    let kind = kind_expected(field_expects(to.schema, *class, index));
     let key = OpKey::Field(index);
     push_place(to, ops, key, kind, value_of(before), value_of(after))
 }

@@ -3,8 +3,9 @@
 
 pub mod apply;
 mod array;
-pub mod blocks;
+mod blocks;
 mod by_ref;
+mod expected;
 mod fields;
 pub mod linked;
 mod map;
@@ -12,11 +13,10 @@ mod marks;
 mod names;
 mod numbers;
 mod place;
-pub mod positions;
+mod positions;
 mod row;
 mod set;
 mod target;
-mod wanted;
 
 pub use apply::apply_blocks;
 pub use blocks::patch;

@@ -3,13 +3,13 @@ ghost use Rattle.std.specs.Prelude.{◌≡◌, List, OnOk};
 ghost use Rattle.state_model.specs.declared.row.RowEntry.{RowEntry};
 ghost use Rattle.state_model.specs.Rows.{kinds_of, emptied};
 ghost use Rattle.wire_model.specs.Effect.{with_linked};
-ghost use Rattle.wire_model.specs.Grammar.{resolved_value, wants_at};
+ghost use Rattle.wire_model.specs.Grammar.{resolved_value, expects_at};
 ghost use Rattle.wire_model.specs.Resolved.{holder_kind};
 ghost use Rattle.wire_model.specs.declared.op.OpKey.TheVariants.{Item};
 ghost use Rattle.canon_patch.specs.Applying.{with_link, with_links, with_row};
 
+use crate::expected::{expected_at, new_collection, new_instance};
 pub use crate::row::emptied;
-use crate::wanted::{new_collection, new_instance, wanted_at};
 use lists::{Memory, Rising, Seq};
 use schema_model::{RefNum, Schema, TypeNum};
 use state_model::{Row, RowEntry};
@@ -80,16 +80,16 @@ fn row_of_value(
     key: &OpKey,
     value: &OpValue,
 ) -> Option<RowEntry>
-    ensures { (rows : List RowEntry) → with_row result rows ≡ with_linked (resolved_value schema.now (kinds_of rows) (wants_at schema.now holder.now key.now) value.now) rows }
+    ensures { (rows : List RowEntry) → with_row result rows ≡ with_linked (resolved_value schema.now (kinds_of rows) (expects_at schema.now holder.now key.now) value.now) rows }
 {
     match value {
         OpValue::Scalar(_, _) => None,
         OpValue::Struct(who, mark) => {
-            let row = new_instance(alloc, *mark, wanted_at(schema, holder, key));
+            let row = new_instance(alloc, *mark, expected_at(schema, holder, key));
             Some(RowEntry { who: *who, row })
         }
         OpValue::Coll(who) => {
-            let row = new_collection(alloc, schema, wanted_at(schema, holder, key));
+            let row = new_collection(alloc, schema, expected_at(schema, holder, key));
             Some(RowEntry { who: *who, row })
         }
     }

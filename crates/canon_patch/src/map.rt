@@ -2,17 +2,17 @@
 ghost use Rattle.std.specs.Prelude.{◌≡◌, ◌++◌, Some, OnOk, map, option_copied};
 ghost use Rattle.std.specs.List.{flat_map};
 ghost use Rattle.schema_model.specs.declared.class.Item.TheVariants.{Scalar};
-ghost use Rattle.state_model.specs.declared.place.Wanted.TheVariants.{Item as AnItem};
+ghost use Rattle.state_model.specs.declared.place.Expected.TheVariants.{Item as AnItem};
 ghost use Rattle.wire_model.specs.declared.op.OpKey.TheVariants.{Item, Named};
 ghost use Rattle.wire_model.specs.Edits.{encoded};
 ghost use Rattle.wire_model.specs.Patch.{item_key, item_value, map_edits, place_edit};
 ghost use Rattle.canon_patch.specs.Encoded.{item_encoded};
 
 use crate::numbers::either_numbers;
-use crate::place::{is_link, kind_wanted, push_added, push_exchanged, push_replaced};
+use crate::place::{is_link, kind_expected, push_added, push_exchanged, push_replaced};
 use crate::target::Target;
 use schema_model::{Home, Memory, ScalarKind};
-use state_model::{MapItem, MapItems, item_wants};
+use state_model::{MapItem, MapItems, item_expects};
 use wire_model::{Op, OpKey, Ops};
 
 // The operations on the items, rising by number.
@@ -26,7 +26,7 @@ pub(crate) fn push_items(
 ) -> Result<(), Memory>
     ensures { OnOk result (ops.new ≡ ops.old ++ map encoded (map_edits to.now.schema.now to.now.rows.now home old.now new.now)) }
 {
-    let kind = kind_wanted(item_wants(to.schema, home));
+    let kind = kind_expected(item_expects(to.schema, home));
     let numbers = either_numbers(to.alloc, old, new)?;
     push_each(to, ops, kind, old, new, numbers.as_slice())
 }

@@ -2,15 +2,15 @@
 ghost use Rattle.std.specs.Prelude.{◌≡◌, ◌∷◌, [], ◌++◌, IfOk, OnOk, Some, map, option_copied};
 ghost use Rattle.schema_model.specs.declared.class.Item.TheVariants.{Scalar};
 ghost use Rattle.schema_model.specs.declared.value.Value.TheVariants.{Link};
-ghost use Rattle.state_model.specs.declared.place.Wanted.TheVariants.{Item as AnItem};
-ghost use Rattle.state_model.specs.Places.{item_wants, row_class};
+ghost use Rattle.state_model.specs.declared.place.Expected.TheVariants.{Item as AnItem};
+ghost use Rattle.state_model.specs.Places.{item_expects, row_class};
 ghost use Rattle.state_model.specs.Values.{is_link};
 ghost use Rattle.wire_model.specs.Edits.{Add, DeleteAdd, Replace, encoded, encoded_link, encoded_value};
-ghost use Rattle.wire_model.specs.Patch.{carried, changed_place, kind_in, kind_wanted, place_edit};
+ghost use Rattle.wire_model.specs.Patch.{carried, changed_place, kind_in, kind_expected, place_edit};
 
 use crate::target::Target;
 use schema_model::{Item, Memory, RefNum, ScalarKind, TypeNum, Value};
-use state_model::{Row, Rows, Wanted};
+use state_model::{Expected, Row, Rows};
 use wire_model::{Op, OpKey, OpValue, Ops};
 
 // The operation on a place whose key is the same under every operation: nothing where it is as it was.
@@ -132,18 +132,18 @@ pub(crate) fn is_link(value: &Value) -> bool
 }
 
 // The scalar kind of what a place is declared to hold; a number's where it holds no scalar.
-pub(crate) fn kind_wanted(wanted: Option<Wanted>) -> ScalarKind
-    ensures { result ≡ kind_wanted wanted }
+pub(crate) fn kind_expected(expected: Option<Expected>) -> ScalarKind
+    ensures { result ≡ kind_expected expected }
 {
-    match wanted {
-        Some(Wanted::Item(item)) => kind_of_item(item),
-        Some(Wanted::Collection(_)) | None => ScalarKind::Number,
+    match expected {
+        Some(Expected::Item(item)) => kind_of_item(item),
+        Some(Expected::Collection(_)) | None => ScalarKind::Number,
     }
 }
 
 // The scalar kind of an item; a number's where it is an instance.
 fn kind_of_item(item: Item) -> ScalarKind
-    ensures { result ≡ kind_wanted (Some (AnItem item)) }
+    ensures { result ≡ kind_expected (Some (AnItem item)) }
 {
     match item {
         Item::Scalar(kind) => kind,

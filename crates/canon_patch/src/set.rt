@@ -2,16 +2,16 @@
 ghost use Rattle.std.specs.Prelude.{◌≡◌, ◌++◌, OnOk, Some, map, option_copied};
 ghost use Rattle.std.specs.List.{flat_map};
 ghost use Rattle.schema_model.specs.declared.class.Item.TheVariants.{Scalar};
-ghost use Rattle.state_model.specs.declared.place.Wanted.TheVariants.{Item as AnItem};
+ghost use Rattle.state_model.specs.declared.place.Expected.TheVariants.{Item as AnItem};
 ghost use Rattle.wire_model.specs.Edits.{encoded};
 ghost use Rattle.wire_model.specs.Patch.{set_edits, set_value};
 ghost use Rattle.canon_patch.specs.Encoded.{element_encoded};
 
 use crate::numbers::either_numbers;
-use crate::place::{kind_wanted, push_place};
+use crate::place::{kind_expected, push_place};
 use crate::target::Target;
 use schema_model::{Home, Memory, ScalarKind, Value};
-use state_model::{SetItems, item_wants};
+use state_model::{SetItems, item_expects};
 use wire_model::{OpKey, Ops};
 
 // The operations on the items, rising by number.
@@ -25,7 +25,7 @@ pub(crate) fn push_elements(
 ) -> Result<(), Memory>
     ensures { OnOk result (ops.new ≡ ops.old ++ map encoded (set_edits to.now.schema.now to.now.rows.now home old.now new.now)) }
 {
-    let kind = kind_wanted(item_wants(to.schema, home));
+    let kind = kind_expected(item_expects(to.schema, home));
     let numbers = either_numbers(to.alloc, old, new)?;
     push_each(to, ops, kind, old, new, numbers.as_slice())
 }

@@ -1,9 +1,11 @@
 //! The core of a client.
-ghost use Rattle.std.specs.Prelude.{◌≡◌, false, IfOk};
+ghost use Rattle.std.specs.Prelude.{◌≡◌, false, Err, IfOk, IsOk};
+ghost use Rattle.frame_model.specs.ServerReading.{read_server};
 ghost use Rattle.life_model.specs.Clients.{after_frame, after_full, after_patch, client_turn, closed, new_client};
-ghost use Rattle.client_core.specs.Cores.{Takes, state_fault};
+ghost use Rattle.client_core.specs.Cores.{Takes, after_fault, is_patch, state_fault};
 
 use client_frames::read_server;
+use frame_model::codes::ROOM_STATE_PATCH;
 use frame_model::{FrameFault, ServerFrame};
 use life_model::{ClientFault, ClientOut};
 use lists::Memory;
@@ -14,13 +16,14 @@ use std::alloc::Global;
 use std::marker::Model;
 use wire_model::OpFault;
 
-/// What a client makes of the frames from its server. After a state answered want of memory all later ones do.
+/// What a client makes of the frames from its server. After `take` answered `Memory` it answers it for good.
 #[derive(Drop)]
 pub struct ClientCore {
     alloc: Global,
     decoder: Decoder,
     ready: bool,
     closed: bool,
+    spent: bool,
 }
 
 impl Model for ClientCore {
@@ -28,7 +31,7 @@ impl Model for ClientCore {
 
     ghost Value = { Core };
 
-    ghost view = { λ c. record { schema = c.decoder.schema; client = record { rows = c.decoder.rows; ready = c.ready; closed = c.closed }; spent = c.decoder.spent } };
+    ghost view = { λ c. record { schema = c.decoder.schema; client = record { rows = c.decoder.rows; ready = c.ready; closed = c.closed }; spent = c.spent } };
 }
 
 impl ClientCore {
@@ -42,6 +45,7 @@ impl ClientCore {
             decoder,
             ready: false,
             closed: false,
+            spent: false,
         })
     }
 
@@ -59,22 +63,40 @@ impl ClientCore {
         self.closed = true;
     }
 
-    /// Takes a frame. A closed client refuses it before it is looked at.
+    /// Takes a frame. A closed client refuses it before it is looked at. A refusal changes nothing.
     pub fn take(&mut self, frame: &[u8]) -> Result<ClientOut, ClientFault>
         ensures { Takes (client_turn self.old.schema self.old.client frame.now) self.old self.new result }
     {
+        if self.spent {
+            return Err(ClientFault::Memory);
+        }
         if self.closed {
             return Err(ClientFault::Closed);
         }
         match read_server(self.alloc, frame) {
             Ok(frame) => self.follow(frame),
-            Err(FrameFault::Memory) => Err(ClientFault::Memory),
+            Err(FrameFault::Memory) => Err(self.unread(frame)),
             Err(fault) => Err(ClientFault::Frame(fault)),
         }
     }
 
+    // Memory ran out for a frame. A patch before a full state is refused even so.
+    fn unread(&mut self, frame: &[u8]) -> ClientFault
+        requires unclosed { self.old.client.closed ≡ false }
+        requires spent { self.old.spent ≡ false }
+        requires there { IsOk (read_server frame.now) }
+        ensures { Takes (client_turn self.old.schema self.old.client frame.now) self.old self.new (Err result) }
+    {
+        if !self.ready && is_patch(frame) {
+            return ClientFault::BeforeFull;
+        }
+        self.spent = true;
+        ClientFault::Memory
+    }
+
     // Follows a frame that was read.
     fn follow(&mut self, frame: ServerFrame) -> Result<ClientOut, ClientFault>
+        requires { self.old.spent ≡ false }
         ensures { Takes (after_frame self.old.schema self.old.client frame) self.old self.new result }
     {
         match frame {
@@ -96,6 +118,7 @@ impl ClientCore {
 
     // A full state.
     fn full(&mut self, bytes: &[u8]) -> Result<ClientOut, ClientFault>
+        requires { self.old.spent ≡ false }
         ensures { Takes (after_full self.old.schema self.old.client bytes.now) self.old self.new result }
     {
         match self.decoder.full(bytes) {
@@ -103,12 +126,13 @@ impl ClientCore {
                 self.ready = true;
                 Ok(ClientOut::Full)
             }
-            Err(fault) => Err(state_fault(fault)),
+            Err(fault) => Err(self.failed(fault)),
         }
     }
 
     // A patch.
     fn patch(&mut self, bytes: &[u8]) -> Result<ClientOut, ClientFault>
+        requires { self.old.spent ≡ false }
         ensures { Takes (after_patch self.old.schema self.old.client bytes.now) self.old self.new result }
     {
         if !self.ready {
@@ -116,24 +140,38 @@ impl ClientCore {
         }
         match self.decoder.patch(bytes) {
             Ok(()) => Ok(ClientOut::Patched),
-            Err(fault) => Err(state_fault(fault)),
+            Err(fault) => Err(self.failed(fault)),
+        }
+    }
+
+    // A state wasn't taken: its fault as a client's.
+    fn failed(&mut self, fault: OpFault) -> ClientFault
+        ensures fault { result ≡ state_fault fault }
+        ensures new { self.new ≡ after_fault fault self.old }
+    {
+        match fault {
+            OpFault::Memory => {
+                self.spent = true;
+                ClientFault::Memory
+            }
+            OpFault::Scalar(_)
+            | OpFault::UnknownRef(_)
+            | OpFault::UnknownField(_)
+            | OpFault::UnknownType(_)
+            | OpFault::UnknownOp(_, _)
+            | OpFault::Unsupported(_, _)
+            | OpFault::NoItem(_)
+            | OpFault::WrongClass(_) => ClientFault::State(fault),
         }
     }
 }
 
-// The fault of a state as a client's.
-fn state_fault(fault: OpFault) -> ClientFault
-    ensures { result ≡ state_fault fault }
+// Whether bytes are a patch's, by their code.
+fn is_patch(frame: &[u8]) -> bool
+    ensures { result ≡ is_patch frame.now }
 {
-    match fault {
-        OpFault::Memory => ClientFault::Memory,
-        OpFault::Scalar(_)
-        | OpFault::UnknownRef(_)
-        | OpFault::UnknownField(_)
-        | OpFault::UnknownType(_)
-        | OpFault::UnknownOp(_, _)
-        | OpFault::Unsupported(_, _)
-        | OpFault::NoItem(_)
-        | OpFault::WrongClass(_) => ClientFault::State(fault),
-    }
+    let [code, ..] = frame else {
+        return false;
+    };
+    *code == ROOM_STATE_PATCH
 }

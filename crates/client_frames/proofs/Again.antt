@@ -111,25 +111,25 @@ fault_is bytes t z at end number words all =
 pub fault_again : (z : ℤ) (t : List ℕ) → in_signed (2 ^ 31) z ≡ true → length t < 2 ^ 32 → is_utf8 t ≡ true
     → read_server (server_bytes (server.Fault z t)) ≡ Ok (server.Fault z t)
 fault_again z t number short good =
-    let front = 11 ∷ number_bytes z in
-    let place : 1 + length (number_bytes z) ≡ length front = omega arith in
+    let prefix = 11 ∷ number_bytes z in
+    let place : 1 + length (number_bytes z) ≡ length prefix = omega arith in
     let number' = number_again (11 ∷ []) (text_bytes t) z number ∙ ap (λ n. Ok (z, n)) place in
-    let words = rw (append-nil (text_bytes t)) at (text_again front [] t short good) in
-    fault_is (front ++ text_bytes t) t z (length front) (length front + length (text_bytes t)) number' words
-    (sym (length-append front (text_bytes t)))
+    let words = rw (append-nil (text_bytes t)) at (text_again prefix [] t short good) in
+    fault_is (prefix ++ text_bytes t) t z (length prefix) (length prefix + length (text_bytes t)) number' words
+    (sym (length-append prefix (text_bytes t)))
 
 -- bytes behind one byte of their length are read again
-first_behind : (front more : List ℕ) (n : ℕ) → slice_get (front ++ n ∷ more) (length front) ≡ Some n
+first_behind : (prefix more : List ℕ) (n : ℕ) → slice_get (prefix ++ n ∷ more) (length prefix) ≡ Some n
 first_behind [] more n = refl
 first_behind (b ∷ bs) more n = first_behind bs more n
 
-counted_again : (front t more : List ℕ) → counted_at (front ++ (short_text t ++ more)) (length front) ≡ Ok (t, length front + 1 + length t)
-counted_again front t more =
-    let there : nat_lt (length (front ++ (short_text t ++ more))) (length front + 1 + length t) ≡ false =
-    grind (arith, nat_tests, length-append front (short_text t ++ more), length-append t more) in
-    let past : drop (length front + 1) (front ++ (short_text t ++ more)) ≡ t ++ more =
-    ap (drop (length front + 1)) (sym (append_assoc front (length t ∷ []) (t ++ more))) ∙ drop_at (front ++ length t ∷ []) (t ++ more) (length front + 1) (length-append front (length t ∷ [])) in
-    rw (first_behind front (t ++ more) (length t), there, past, take_at t more (length t) refl) refl
+counted_again : (prefix t more : List ℕ) → counted_at (prefix ++ (short_text t ++ more)) (length prefix) ≡ Ok (t, length prefix + 1 + length t)
+counted_again prefix t more =
+    let there : nat_lt (length (prefix ++ (short_text t ++ more))) (length prefix + 1 + length t) ≡ false =
+    grind (arith, nat_tests, length-append prefix (short_text t ++ more), length-append t more) in
+    let past : drop (length prefix + 1) (prefix ++ (short_text t ++ more)) ≡ t ++ more =
+    ap (drop (length prefix + 1)) (sym (append_assoc prefix (length t ∷ []) (t ++ more))) ∙ drop_at (prefix ++ length t ∷ []) (t ++ more) (length prefix + 1) (length-append prefix (length t ∷ [])) in
+    rw (first_behind prefix (t ++ more) (length t), there, past, take_at t more (length t) refl) refl
 
 -- a welcome from its parts
 join_is : (bytes token handshake : List ℕ) (at end : ℕ) → counted_at bytes 1 ≡ Ok (token, at) → counted_at bytes at ≡ Ok (codes "schema", end) → drop end bytes ≡ handshake
@@ -139,11 +139,11 @@ join_is bytes token handshake at end first second rest = rw (first, second, rest
 
 pub join_again : (token handshake : List ℕ) → read_server (server_bytes (server.Join token handshake)) ≡ Ok (server.Join token handshake)
 join_again token handshake =
-    let front = 10 ∷ short_text token in
+    let prefix = 10 ∷ short_text token in
     let word = short_text (codes "schema") in
-    let end = length front + 1 + length (codes "schema") in
-    let place : 1 + 1 + length token ≡ length front = omega arith in
+    let end = length prefix + 1 + length (codes "schema") in
+    let place : 1 + 1 + length token ≡ length prefix = omega arith in
     let first = counted_again (10 ∷ []) token (word ++ handshake) ∙ ap (λ n. Ok (token, n)) place in
-    let rest = drop_at (front ++ word) handshake end (omega (arith, length-append front word)) in
-    join_is (front ++ (word ++ handshake)) token handshake (length front) end first (counted_again front (codes "schema") handshake)
-    (ap (drop end) (sym (append_assoc front word handshake)) ∙ rest)
+    let rest = drop_at (prefix ++ word) handshake end (omega (arith, length-append prefix word)) in
+    join_is (prefix ++ (word ++ handshake)) token handshake (length prefix) end first (counted_again prefix (codes "schema") handshake)
+    (ap (drop end) (sym (append_assoc prefix word handshake)) ∙ rest)

@@ -1,4 +1,4 @@
-//! The message kind in front of a payload, which is read without memory and copied afterwards.
+//! The message kind before a payload, which is read without memory and copied afterwards.
 ghost use Rattle.std.specs.Prelude.{◌≡◌, ◌≤◌, false, length, slice_get, Ok, Err, MatchOption, IfSome, IfOk};
 ghost use Rattle.std.specs.Option.{option_map_or};
 ghost use Rattle.frame_model.specs.Reading.{begins_text, kind_at};

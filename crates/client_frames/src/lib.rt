@@ -2,10 +2,10 @@
 #![tactic(auto)]
 
 mod kind;
-pub mod reading;
+mod reading;
 mod server;
-pub mod writing;
+mod writing;
 
 pub use frame_model::{ClientFrame, FrameFault, MsgKind, ServerFrame};
 pub use reading::{read_client, read_server};
-pub use writing::{write_client, write_message, write_raw, write_server};
+pub use writing::{error_frame, write_client, write_message, write_raw, write_server};

@@ -18,7 +18,7 @@ use std::alloc::Global;
 const LONGEST: usize = 65_536;
 
 /// The frame that a client's bytes are. `TooLong` comes first, of more than 65,536 bytes. A payload is looked at, and
-/// kept as it came; want of memory is told only of bytes that are a frame.
+/// kept as it came; out of memory is told only of bytes that are a frame.
 pub fn read_client(alloc: Global, bytes: &[u8]) -> Result<ClientFrame, FrameFault>
     ensures { GivesFrame result (read_client bytes.now) }
 {

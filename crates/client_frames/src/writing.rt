@@ -1,5 +1,5 @@
 //! Frames as bytes.
-ghost use Rattle.std.specs.Prelude.{◌≡◌, ◌≤◌, ◌<◌, ◌^◌, ◌++◌, ◌∷◌, true, codes, length, Ok, OnOk, OnErr};
+ghost use Rattle.std.specs.Prelude.{◌≡◌, ◌≤◌, ◌<◌, ◌^◌, ◌++◌, ◌∷◌, true, codes, length, pos, Ok, IfOk, OnOk, OnErr};
 ghost use Rattle.std.specs.Io.{StartsWith};
 ghost use Rattle.std.specs.Str.{is_utf8};
 ghost use Rattle.schema_model.specs.Fits.{in_signed};
@@ -17,7 +17,8 @@ use frame_model::codes::{
 };
 use frame_model::{ClientFrame, MsgKind, ServerFrame};
 use scalar_codec::{put_number, put_text};
-use schema_model::Memory;
+use schema_model::{Bytes, Memory, Text};
+use std::alloc::Global;
 
 /// Appends a server's frame. An `Err` leaves `out` as it was.
 pub fn write_server(out: &mut Vec<u8>, frame: &ServerFrame) -> Result<(), Memory>
@@ -33,6 +34,17 @@ pub fn write_server(out: &mut Vec<u8>, frame: &ServerFrame) -> Result<(), Memory
         out.truncate(before);
     }
     outcome
+}
+
+/// The ERROR frame of a code with a text.
+pub fn error_frame(alloc: Global, code: u16, text: &str) -> Result<Bytes, Memory>
+    requires { length text.now < 2 ^ 32 }
+    ensures { IfOk result (λ bytes. bytes ≡ server_bytes (server.Fault (pos code) text.now)) }
+{
+    let text = Text::from_text(alloc, text)?;
+    let mut out = Vec::new(alloc);
+    write_server(&mut out, &ServerFrame::Fault(i32::from(code), text))?;
+    Ok(Bytes::from_vec(out))
 }
 
 /// Appends a client's frame. An `Err` leaves `out` as it was.

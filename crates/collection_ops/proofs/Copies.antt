@@ -14,7 +14,7 @@ length_next : {E : Type 0} (xs : List E) (x : E) → length (xs ++ x ∷ []) ≡
 length_next [] x = refl
 length_next (e ∷ xs) x = ap suc (length_next xs x)
 
--- what was copied is what stands in front
+-- what was copied is what stands first
 pub copied_more : {E : Type 0} (es out : List E) (x : E) → out ≡ take (length out) es → slice_get es (length out) ≡ Some x → out ++ x ∷ [] ≡ take (length (out ++ x ∷ [])) es
 copied_more es out x h at = ap (λ l. l ++ x ∷ []) h ∙ take_next es (length out) x at ∙ ap (λ n. take n es) (sym (length_next out x))
 

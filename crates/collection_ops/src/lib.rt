@@ -1,11 +1,11 @@
 //! The items of one collection: a map, an array or a set, each call exact.
 #![tactic(auto)]
 
-pub mod array_body;
+mod array_body;
 pub mod fault;
-pub mod map_body;
-pub mod set_body;
-pub mod value_index;
+mod map_body;
+mod set_body;
+mod value_index;
 
 pub use array_body::ArrayBody;
 pub use fault::ItemFault;

@@ -14,7 +14,7 @@ use std::marker::Model;
 use trees::{Numbered, TextIndex, text_hash};
 
 /// The items of a map, found by number and by key. A call takes logarithmic time, but for
-/// `number_at`, `clear` and `copy_items`; `after` passes over what was taken out in front of what it answers.
+/// `number_at`, `clear` and `copy_items`; `after` passes over what was taken out before what it answers.
 #[derive(Drop)]
 pub struct MapBody {
     alloc: Global,
@@ -85,7 +85,7 @@ impl MapBody {
         self.items.after(number)
     }
 
-    /// The n-th item number, counted from 0. It passes over all items in front of it.
+    /// The n-th item number, counted from 0. It passes over all items before it.
     pub fn number_at(&self, n: u32) -> Option<u32>
         ensures { result ≡ slice_get (map map_number self.now.items) n }
     {

@@ -22,7 +22,7 @@ use Rattle.state_model.specs.Rows.{row_at, is_live, place_count, text_bytes_of, 
 use Rattle.state_model.specs.Places.{empty_collection, collection_of, same_kind, row_home}
 use Rattle.state_model.specs.Sound.{has_kind}
 use Rattle.state_model.specs.State.{State, next_item, rows_limit, places_limit, text_limit, last_number}
-use Rattle.state_model.specs.Commands.{adds_place, gives_number, holder_of, value_put, made_row, makes_row, is_no_ref, is_no_field, is_no_item, wanted_for, is_wrong_type, is_past_range, is_cycle, is_duplicate, is_long_text, is_long_key, is_present, with_new, with_change, row_for, state_after, number_made, first_cause, causes_over, refusal_of, answer_of, do_command}
+use Rattle.state_model.specs.Commands.{adds_place, gives_number, holder_of, value_put, made_row, makes_row, is_no_ref, is_no_field, is_no_item, expected_for, is_wrong_type, is_past_range, is_cycle, is_duplicate, is_long_text, is_long_key, is_present, with_new, with_change, row_for, state_after, number_made, first_cause, causes_over, refusal_of, answer_of, do_command}
 use Rattle.state_laws.proofs.Numbers.{at_live}
 
 -- no cause
@@ -44,8 +44,8 @@ pub record IsAccepted (schema : Schema) (s : State) (c : Command) (row : Option 
   pub named : is_no_ref s.rows c ≡ false
   pub declared : is_no_field schema c row ≡ false
   pub there : is_no_item c row ≡ false
-  pub typed : is_wrong_type schema s.rows (value_put c) (wanted_for schema c row) ≡ false
-  pub ranged : is_past_range (value_put c) (wanted_for schema c row) ≡ false
+  pub typed : is_wrong_type schema s.rows (value_put c) (expected_for schema c row) ≡ false
+  pub ranged : is_past_range (value_put c) (expected_for schema c row) ≡ false
   pub apart : is_cycle s.rows (holder_of c) (value_put c) ≡ false
   pub single : is_duplicate schema c row ≡ false
   pub rows_left : (makes_row c && nat_le rows_limit (length s.rows)) ≡ false

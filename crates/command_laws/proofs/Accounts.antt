@@ -23,7 +23,7 @@ use Rattle.state_model.specs.declared.command.Command.{Command}
 use Rattle.state_model.specs.declared.command.Command.TheVariants.{Make, MakeFor, Put, Unset, PutKey, DelKey, Push, SetAt, DelAt, Add, Del, Clear}
 use Rattle.state_model.specs.Values.{held_by, text_size}
 use Rattle.state_model.specs.Rows.{row_at, values_in, held_in, key_bytes}
-use Rattle.state_model.specs.Places.{field_wants, item_wants}
+use Rattle.state_model.specs.Places.{field_expects, item_expects}
 use Rattle.state_model.specs.Sound.{rise, keys_differ, fits_place, places_fit, are_sound}
 use Rattle.state_model.specs.State.{State}
 use Rattle.state_model.specs.Commands.{value_put, has_key, has_value, put_key, is_no_field, adds_place, edited}
@@ -52,12 +52,12 @@ by_values w g xs ys o n h = omega (arith, sum_by-map w g xs, sum_by-map w g ys, 
 -- fields rise
 fields_rise : (schema : Schema) (rows : List RowEntry) (class : ℕ) (fields : List FieldValue) → places_fit schema rows (Struct class fields) ≡ true → rising.RisesFrom field_in 0 fields
 fields_rise schema rows class fields h =
-    rises_where field_in fields (and_parts (rise (map field_in fields)) (list_all (λ (x : FieldValue). fits_place schema rows x.value (field_wants schema class x.field)) fields) h).0
+    rises_where field_in fields (and_parts (rise (map field_in fields)) (list_all (λ (x : FieldValue). fits_place schema rows x.value (field_expects schema class x.field)) fields) h).0
 
 -- the keys of a map differ
 map_keys_differ : (schema : Schema) (rows : List RowEntry) (home : Home) (items : List MapItem) → places_fit schema rows (Map home items) ≡ true → keys_differ (map key_of items) ≡ true
 map_keys_differ schema rows home items h =
-    let two = and_parts (rise (map number_in items) && keys_differ (map key_of items)) (list_all (λ (i : MapItem). fits_place schema rows i.value (item_wants schema home)) items) h in
+    let two = and_parts (rise (map number_in items) && keys_differ (map key_of items)) (list_all (λ (i : MapItem). fits_place schema rows i.value (item_expects schema home)) items) h in
     (and_parts (rise (map number_in items)) (keys_differ (map key_of items)) two.0).1
 
 -- a sum over the values of a row gains what the command puts and loses what that replaces

@@ -16,7 +16,7 @@ use Rattle.state_model.specs.declared.row.SetItem.{SetItem}
 use Rattle.state_model.specs.declared.command.Command.{Command}
 use Rattle.state_model.specs.declared.command.Command.TheVariants.{PutKey, DelKey, Clear}
 use Rattle.state_model.specs.Rows.{row_at, emptied}
-use Rattle.state_model.specs.Places.{item_wants}
+use Rattle.state_model.specs.Places.{item_expects}
 use Rattle.state_model.specs.Reached.{is_among}
 use Rattle.state_model.specs.Sound.{rise, keys_differ, fits_place}
 use Rattle.state_model.specs.State.{State, next_item}
@@ -140,7 +140,7 @@ map_rises : (schema : Schema) (rows : List RowEntry) (home : Home) (is : List Ma
 map_rises schema rows home is own =
     let numbers = rise (map number_in is) in
     let keys = keys_differ (map (λ (x : MapItem). x.key) is) in
-    let all = list_all (λ (x : MapItem). fits_place schema rows x.value (item_wants schema home)) is in
+    let all = list_all (λ (x : MapItem). fits_place schema rows x.value (item_expects schema home)) is in
     rises_where number_in is (and_parts numbers keys (and_parts (numbers && keys) all own.fits).0).0
 
 -- an item that stays keeps its key

@@ -22,10 +22,10 @@ use Rattle.state_model.specs.declared.command.Command.{Command}
 use Rattle.state_model.specs.declared.command.Command.TheVariants.{Put, Unset, PutKey, DelKey, Push, SetAt, DelAt, Add, Del, Clear}
 use Rattle.state_model.specs.Values.{held_by}
 use Rattle.state_model.specs.Rows.{held_in, emptied}
-use Rattle.state_model.specs.Places.{field_wants, item_wants, is_filtered}
+use Rattle.state_model.specs.Places.{field_expects, item_expects, is_filtered}
 use Rattle.state_model.specs.Reached.{is_among}
 use Rattle.state_model.specs.Sound.{rise, differ, keys_differ, fits_place, places_fit, set_differs}
-use Rattle.state_model.specs.Commands.{value_put, wanted_for, is_duplicate, has_key, has_value, put_key, gives_number, edited, counts_items}
+use Rattle.state_model.specs.Commands.{value_put, expected_for, is_duplicate, has_key, has_value, put_key, gives_number, edited, counts_items}
 use Rattle.state_laws.proofs.Passing.{list_any-flat_map}
 use Rattle.state_laws.proofs.Tests.{list_any-map, list_any-made, list_any_filtered, list_all_filtered}
 use Rattle.state_laws.proofs.ShownRows.{holds}
@@ -236,22 +236,22 @@ rise_again : {X : Type 0} (f : X → ℕ) (xs ys : List X) → (rising.RisesFrom
 rise_again f xs ys from h = rise_where f 0 ys (from (rises_where f xs h))
 
 -- the places of the row fit after the change
-pub edited_fits : (schema : Schema) (rows : List RowEntry) (c : Command) (next : ℕ) (row : Row) → ((v : Value) → value_put c ≡ Some v → fits_place schema rows v (wanted_for schema c (Some row)) ≡ true) → is_duplicate schema c (Some row) ≡ false → ((k : ℕ) → is_among k (item_numbers row) ≡ true → k < next)
+pub edited_fits : (schema : Schema) (rows : List RowEntry) (c : Command) (next : ℕ) (row : Row) → ((v : Value) → value_put c ≡ Some v → fits_place schema rows v (expected_for schema c (Some row)) ≡ true) → is_duplicate schema c (Some row) ≡ false → ((k : ℕ) → is_among k (item_numbers row) ≡ true → k < next)
     → places_fit schema rows row ≡ true → places_fit schema rows (edited c next row) ≡ true
 edited_fits schema rows (Put r f v) next (Struct class fields) put d n h =
-    let p = λ (x : FieldValue). fits_place schema rows x.value (field_wants schema class x.field) in
+    let p = λ (x : FieldValue). fits_place schema rows x.value (field_expects schema class x.field) in
     let field : FieldValue = record { field = f; value = v } in
     let two = and_parts (rise (map field_in fields)) (list_all p fields) h in
     and_from (rise (map field_in (rising.put field_in field fields))) (list_all p (rising.put field_in field fields))
     (rise_again field_in fields (rising.put field_in field fields) (λ r. RisesFrom-put field_in 0 field fields r (omega arith)) two.0)
     (list_all_put field_in p field fields (put v refl) two.1)
 edited_fits schema rows (Unset r f) next (Struct class fields) put d n h =
-    let p = λ (x : FieldValue). fits_place schema rows x.value (field_wants schema class x.field) in
+    let p = λ (x : FieldValue). fits_place schema rows x.value (field_expects schema class x.field) in
     let q = λ (x : FieldValue). not (x.field == f) in
     let two = and_parts (rise (map field_in fields)) (list_all p fields) h in
     and_from (rise (map field_in (filter q fields))) (list_all p (filter q fields)) (rise_again field_in fields (filter q fields) (RisesFrom-filter field_in 0 q fields) two.0) (list_all_filtered p q fields two.1)
 edited_fits schema rows (PutKey r key v) next (Map home items) put d n h =
-    let q = λ (u : Value). fits_place schema rows u (item_wants schema home) in
+    let q = λ (u : Value). fits_place schema rows u (item_expects schema home) in
     let p = λ (i : MapItem). q i.value in
     let two = and_parts (rise (map number_in items) && keys_differ (map key_of items)) (list_all p items) h in
     let own = and_parts (rise (map number_in items)) (keys_differ (map key_of items)) two.0 in
@@ -262,7 +262,7 @@ edited_fits schema rows (PutKey r key v) next (Map home items) put d n h =
     (keys_differ_put next key v items own.1))
     (list_all_value_put q next key v items (put v refl) two.1)
 edited_fits schema rows (DelKey r key) next (Map home items) put d n h =
-    let p = λ (i : MapItem). fits_place schema rows i.value (item_wants schema home) in
+    let p = λ (i : MapItem). fits_place schema rows i.value (item_expects schema home) in
     let q = λ (i : MapItem). not (bytes_eq i.key key) in
     let two = and_parts (rise (map number_in items) && keys_differ (map key_of items)) (list_all p items) h in
     let own = and_parts (rise (map number_in items)) (keys_differ (map key_of items)) two.0 in
@@ -270,19 +270,19 @@ edited_fits schema rows (DelKey r key) next (Map home items) put d n h =
     (and_from (rise (map number_in (filter q items))) (keys_differ (map key_of (filter q items))) (rise_again number_in items (filter q items) (RisesFrom-filter number_in 0 q items) own.0) (keys_filtered key_of q items own.1))
     (list_all_filtered p q items two.1)
 edited_fits schema rows (Push r v) next (Array home values) put d n h =
-    let p = λ (u : Value). fits_place schema rows u (item_wants schema home) in
+    let p = λ (u : Value). fits_place schema rows u (item_expects schema home) in
     let two = and_parts (not (is_filtered schema home) || differ values) (list_all p values) h in
     and_from (not (is_filtered schema home) || differ (values ++ v ∷ [])) (list_all p (values ++ v ∷ [])) (unfiltered_push (is_filtered schema home) v values two.0 d) (list_all_pushed p v values (put v refl) two.1)
 edited_fits schema rows (SetAt r at v) next (Array home values) put d n h =
-    let p = λ (u : Value). fits_place schema rows u (item_wants schema home) in
+    let p = λ (u : Value). fits_place schema rows u (item_expects schema home) in
     let two = and_parts (not (is_filtered schema home) || differ values) (list_all p values) h in
     and_from (not (is_filtered schema home) || differ (set values at v)) (list_all p (set values at v)) (unfiltered_set (is_filtered schema home) v values at two.0 d) (list_all_set p v values at (put v refl) two.1)
 edited_fits schema rows (DelAt r at) next (Array home values) put d n h =
-    let p = λ (u : Value). fits_place schema rows u (item_wants schema home) in
+    let p = λ (u : Value). fits_place schema rows u (item_expects schema home) in
     let two = and_parts (not (is_filtered schema home) || differ values) (list_all p values) h in
     and_from (not (is_filtered schema home) || differ (remove values at)) (list_all p (remove values at)) (unfiltered_remove (is_filtered schema home) values at two.0) (list_all_removed p values at two.1)
 edited_fits schema rows (Add r v) next (Set home items) put d n h =
-    let p = λ (i : SetItem). fits_place schema rows i.value (item_wants schema home) in
+    let p = λ (i : SetItem). fits_place schema rows i.value (item_expects schema home) in
     let two = and_parts (rise (map set_number items)) (list_all p items) h in
     let new = items ++ set_item next v ∷ [] in
     cond_both (has_value items v) (Set home items) (Set home new) (λ (q : Row). places_fit schema rows q ≡ true)
@@ -291,7 +291,7 @@ edited_fits schema rows (Add r v) next (Set home items) put d n h =
     (rise_again set_number items new (λ r. RisesFrom-push set_number 0 items (set_item next v) r (above_numbers set_number next items n) (omega arith)) two.0)
     (list_all_pushed p (set_item next v) items (put v refl) two.1))
 edited_fits schema rows (Del r v) next (Set home items) put d n h =
-    let p = λ (i : SetItem). fits_place schema rows i.value (item_wants schema home) in
+    let p = λ (i : SetItem). fits_place schema rows i.value (item_expects schema home) in
     let q = λ (i : SetItem). not (same_value i.value v) in
     let two = and_parts (rise (map set_number items)) (list_all p items) h in
     and_from (rise (map set_number (filter q items))) (list_all p (filter q items)) (rise_again set_number items (filter q items) (RisesFrom-filter set_number 0 q items) two.0) (list_all_filtered p q items two.1)

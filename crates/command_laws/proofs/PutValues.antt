@@ -18,12 +18,12 @@ use Rattle.state_model.specs.declared.row.Row.TheVariants.{Struct, Map, Array, S
 use Rattle.state_model.specs.declared.row.RowEntry.{RowEntry}
 use Rattle.state_model.specs.declared.command.Command.{Command}
 use Rattle.state_model.specs.declared.command.Command.TheVariants.{Put, PutKey, Push, SetAt, Add}
-use Rattle.state_model.specs.declared.place.Wanted.{Wanted}
-use Rattle.state_model.specs.declared.place.Wanted.TheVariants.{Item as AnItem, Collection as ACollection}
-use Rattle.state_model.specs.Places.{item_wants, empty_collection, collection_of, same_kind}
-use Rattle.state_model.specs.Sound.{is_of_type, fits_wanted, fits_place, has_kind}
+use Rattle.state_model.specs.declared.place.Expected.{Expected}
+use Rattle.state_model.specs.declared.place.Expected.TheVariants.{Item as AnItem, Collection as ACollection}
+use Rattle.state_model.specs.Places.{item_expects, empty_collection, collection_of, same_kind}
+use Rattle.state_model.specs.Sound.{is_of_type, fits_expected, fits_place, has_kind}
 use Rattle.state_model.specs.State.{State}
-use Rattle.state_model.specs.Commands.{value_put, is_no_field, wanted_for, is_wrong_type, is_past_range, is_long_text, is_long_key}
+use Rattle.state_model.specs.Commands.{value_put, is_no_field, expected_for, is_wrong_type, is_past_range, is_long_text, is_long_key}
 use Rattle.command_laws.proofs.Accepted.{IsAccepted}
 
 -- one value
@@ -69,7 +69,7 @@ link_unfit kind.I32 n h = cc
 link_unfit kind.U32 n h = cc
 
 -- a value of the declared kind and in its range that is no text too long fits
-value_fits : (schema : Schema) (rows : List RowEntry) (v : Value) (w : Wanted) → is_wrong_type schema rows (Some v) (Some w) ≡ false → is_past_range (Some v) (Some w) ≡ false → is_long_text (Some v) ≡ false → fits_wanted schema rows w v ≡ true
+value_fits : (schema : Schema) (rows : List RowEntry) (v : Value) (w : Expected) → is_wrong_type schema rows (Some v) (Some w) ≡ false → is_past_range (Some v) (Some w) ≡ false → is_long_text (Some v) ≡ false → fits_expected schema rows w v ≡ true
 value_fits schema rows (value.Whole z) (AnItem (item.Scalar k)) t r s = not-false (in_range k z) r
 value_fits schema rows (value.Str x) (AnItem (item.Scalar k)) t r s = text_fits k x (not-false (is_of_kind k (value.Str x)) t) s
 value_fits schema rows (value.Truth b) (AnItem (item.Scalar k)) t r s = truth_fits k b (not-false (is_of_kind k (value.Truth b)) t)
@@ -80,10 +80,10 @@ value_fits schema rows v (ACollection home) t r s = not-false (is_of_type schema
 -- what is declared
 
 -- a home with an empty collection declares items
-home_wanted : (schema : Schema) (home : Home) (row : Row) → option_map_or (same_kind row) (empty_collection schema home) false ≡ true → is_some (item_wants schema home) ≡ true
-home_wanted schema home row h = by_field (home_field schema home) refl
+home_expected : (schema : Schema) (home : Home) (row : Row) → option_map_or (same_kind row) (empty_collection schema home) false ≡ true → is_some (item_expects schema home) ≡ true
+home_expected schema home row h = by_field (home_field schema home) refl
   where
-    by_field : (o : Option FieldDecl) → home_field schema home ≡ o → is_some (item_wants schema home) ≡ true
+    by_field : (o : Option FieldDecl) → home_field schema home ≡ o → is_some (item_expects schema home) ≡ true
     by_field None e =
         let no : empty_collection schema home ≡ None = ap (option_and_then (λ (f : FieldDecl). collection_of home f.shape)) e in
         let fails : option_map_or (same_kind row) (empty_collection schema home) false ≡ false = ap (λ o. option_map_or (same_kind row) o false) no in
@@ -91,25 +91,25 @@ home_wanted schema home row h = by_field (home_field schema home) refl
     by_field (Some f) e = ap (λ o. is_some (option_map (λ (d : FieldDecl). AnItem (item_of d.shape)) o)) e
 
 -- where a command puts a value, something is declared
-wanted_there : (schema : Schema) (c : Command) (row : Row) (v : Value) → has_kind schema row ≡ true → is_no_field schema c (Some row) ≡ false → value_put c ≡ Some v → is_some (wanted_for schema c (Some row)) ≡ true
-wanted_there schema (Put r f u) (Struct class fields) v k h p = grind (arith, nat_tests)
-wanted_there schema (PutKey r key u) (Map home items) v k h p = home_wanted schema home (Map home items) k
-wanted_there schema (Push r u) (Array home values) v k h p = home_wanted schema home (Array home values) k
-wanted_there schema (SetAt r at u) (Array home values) v k h p = home_wanted schema home (Array home values) k
-wanted_there schema (Add r u) (Set home items) v k h p = home_wanted schema home (Set home items) k
-wanted_there schema c row v k h p = cc
+expected_there : (schema : Schema) (c : Command) (row : Row) (v : Value) → has_kind schema row ≡ true → is_no_field schema c (Some row) ≡ false → value_put c ≡ Some v → is_some (expected_for schema c (Some row)) ≡ true
+expected_there schema (Put r f u) (Struct class fields) v k h p = grind (arith, nat_tests)
+expected_there schema (PutKey r key u) (Map home items) v k h p = home_expected schema home (Map home items) k
+expected_there schema (Push r u) (Array home values) v k h p = home_expected schema home (Array home values) k
+expected_there schema (SetAt r at u) (Array home values) v k h p = home_expected schema home (Array home values) k
+expected_there schema (Add r u) (Set home items) v k h p = home_expected schema home (Set home items) k
+expected_there schema c row v k h p = cc
 
 -- what an accepted command puts fits its place
-pub put_fits : (schema : Schema) (s : State) (c : Command) (row : Row) (v : Value) → has_kind schema row ≡ true → IsAccepted schema s c (Some row) → value_put c ≡ Some v → fits_place schema s.rows v (wanted_for schema c (Some row)) ≡ true
-put_fits schema s c row v k free p = by_wanted (wanted_for schema c (Some row)) refl
+pub put_fits : (schema : Schema) (s : State) (c : Command) (row : Row) (v : Value) → has_kind schema row ≡ true → IsAccepted schema s c (Some row) → value_put c ≡ Some v → fits_place schema s.rows v (expected_for schema c (Some row)) ≡ true
+put_fits schema s c row v k free p = by_expected (expected_for schema c (Some row)) refl
   where
-    by_wanted : (o : Option Wanted) → wanted_for schema c (Some row) ≡ o → fits_place schema s.rows v (wanted_for schema c (Some row)) ≡ true
-    by_wanted None e =
-        let some = wanted_there schema c row v k free.declared p in
-        let no : is_some (wanted_for schema c (Some row)) ≡ false = ap is_some e in
+    by_expected : (o : Option Expected) → expected_for schema c (Some row) ≡ o → fits_place schema s.rows v (expected_for schema c (Some row)) ≡ true
+    by_expected None e =
+        let some = expected_there schema c row v k free.declared p in
+        let no : is_some (expected_for schema c (Some row)) ≡ false = ap is_some e in
         cc
-    by_wanted (Some w) e =
-        let typed : is_wrong_type schema s.rows (Some v) (Some w) ≡ false = ap (λ o. is_wrong_type schema s.rows (Some v) o) (sym e) ∙ ap (λ o. is_wrong_type schema s.rows o (wanted_for schema c (Some row))) (sym p) ∙ free.typed in
-        let ranged : is_past_range (Some v) (Some w) ≡ false = ap (is_past_range (Some v)) (sym e) ∙ ap (λ o. is_past_range o (wanted_for schema c (Some row))) (sym p) ∙ free.ranged in
+    by_expected (Some w) e =
+        let typed : is_wrong_type schema s.rows (Some v) (Some w) ≡ false = ap (λ o. is_wrong_type schema s.rows (Some v) o) (sym e) ∙ ap (λ o. is_wrong_type schema s.rows o (expected_for schema c (Some row))) (sym p) ∙ free.typed in
+        let ranged : is_past_range (Some v) (Some w) ≡ false = ap (is_past_range (Some v)) (sym e) ∙ ap (λ o. is_past_range o (expected_for schema c (Some row))) (sym p) ∙ free.ranged in
         let short : is_long_text (Some v) ≡ false = ap is_long_text (sym p) ∙ (or_parts (is_long_text (value_put c)) (is_long_key c) free.short).0 in
         ap (fits_place schema s.rows v) e ∙ value_fits schema s.rows v w typed ranged short

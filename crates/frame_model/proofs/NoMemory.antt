@@ -13,7 +13,7 @@ use Rattle.frame_model.specs.declared.form.Form.TheVariants as form
 use Rattle.frame_model.specs.PackData.{PackData, PackItems, item, PackMembers, member, list, dict}
 use Rattle.frame_model.specs.Packs.{alone, as_text, as_value, bytes_at, dict_at, form_of, items_at, key_at, key_of_form, length_at, list_at, members_at, most_levels, pack_at, read_pack, run_at, text_at, value_at, value_of_form, width_at, width_of}
 
--- a fault that isn't want of memory, or no fault
+-- a fault that isn't out of memory, or no fault
 abbrev pub Reads : {A : Type 0} → Result A PackFault → Type 0
 Reads (Ok a) = Unit {0}
 Reads (Err fault.Memory) = ⊥

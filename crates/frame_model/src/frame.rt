@@ -1,10 +1,25 @@
-use schema_model::{Bytes, Text};
+ghost use Rattle.std.specs.Prelude.{◌≡◌, IfOk};
+
+use schema_model::{Bytes, Memory, Text};
+use std::alloc::Global;
 
 /// What a message is about.
 #[derive(Debug, Drop)]
 pub enum MsgKind {
     Name(Text),
     Num(i32),
+}
+
+impl MsgKind {
+    /// The same kind again.
+    pub fn copy(&self, alloc: Global) -> Result<MsgKind, Memory>
+        ensures { IfOk result (λ k. k ≡ self.now) }
+    {
+        Ok(match self {
+            MsgKind::Name(name) => MsgKind::Name(name.copy(alloc)?),
+            MsgKind::Num(number) => MsgKind::Num(*number),
+        })
+    }
 }
 
 /// A frame from the server.

@@ -5,7 +5,7 @@ pub mod codes;
 pub mod fault;
 pub mod form;
 pub mod frame;
-pub mod kinds;
+mod kinds;
 pub mod pack;
 
 pub use fault::{FrameFault, PackFault};

@@ -45,12 +45,12 @@ impl Packs {
         }
     }
 
-    /// No values, and room for so many.
-    pub fn with_room(alloc: Global, room: usize) -> Result<Packs, Memory>
+    /// No values. It takes memory for as many, as `Vec::with_capacity` does.
+    pub fn with_capacity(alloc: Global, capacity: usize) -> Result<Packs, Memory>
         ensures { IfOk result (λ p. items_data p ≡ no_items) }
     {
         Ok(Packs {
-            items: Vec::with_capacity(alloc, room)?,
+            items: Vec::with_capacity(alloc, capacity)?,
         })
     }
 
@@ -86,12 +86,12 @@ impl PackPairs {
         }
     }
 
-    /// No pairs, and room for so many.
-    pub fn with_room(alloc: Global, room: usize) -> Result<PackPairs, Memory>
+    /// No pairs. It takes memory for as many, as `Vec::with_capacity` does.
+    pub fn with_capacity(alloc: Global, capacity: usize) -> Result<PackPairs, Memory>
         ensures { IfOk result (λ p. members_data p ≡ no_members) }
     {
         Ok(PackPairs {
-            items: Vec::with_capacity(alloc, room)?,
+            items: Vec::with_capacity(alloc, capacity)?,
         })
     }
 

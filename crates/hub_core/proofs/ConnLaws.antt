@@ -139,3 +139,8 @@ AreNumbers-undone room session n cs es fs gs alone numbers set out =
 
     both : Renumbered room session None es gs
     both q = out q ∙ ap (cond (is_at (by_both (room, session)) q) None) (set q) ∙ by_test (is_at (by_both (room, session)) q) (lookup (is_at (by_both q)) es)
+
+-- the connection of a number is that of its session
+pub own_found : (n : ℕ) (cs : List HubConn) (c : HubConn) → AreApart cs → find_by conn_number n cs ≡ Some c → conn_for cs c.room c.session ≡ Some c
+own_found n [] c apart found = absurd cc
+own_found n (d ∷ cs) c apart found = grind (arith, nat_tests, bytes_eq-Decides, apart.0, found, own_found n cs c apart.1)

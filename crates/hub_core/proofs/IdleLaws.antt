@@ -10,7 +10,7 @@ use Rattle.hub_model.specs.declared.event.HubOut.TheVariants as out
 use Rattle.hub_model.specs.HubValues.{HubRoom, HubValue, is_named}
 use Rattle.hub_model.specs.HubStep.{Rules, all_dealt, conns_with, deals, disposals, event_if, first_outs, hub_step, is_needed, last_outs, makes, moment_behind, settled, tells, unknown_room}
 use Rattle.hub_model.specs.Dealt.{Dealt, RoomStep, conns_left, dealt, ends, told_out}
-use Rattle.hub_core.specs.Played.{dealt_in, played_in}
+use Rattle.hub_core.specs.Handled.{dealt_in, handled_in}
 
 -- ---- no room has an event
 
@@ -59,7 +59,7 @@ silent_tells (Lost conn) cs step r = refl
 silent_tells (Acted room act) cs step r = refl
 silent_tells (Tick room) cs step r = refl
 
--- where nothing happens in a room
+-- where nothing handled in a room
 pub idle_step : (rules : Rules) (h : HubValue) (e : HubEvent) → ((r : HubRoom) → deals rules h e r ≡ []) → makes rules h e ≡ [] → filter is_needed h.rooms ≡ h.rooms → filter (λ r. not (is_needed r)) h.rooms ≡ []
     → conns_with h e (idle rules.step h.rooms) ≡ h.conns
     → hub_step rules h e ≡ (record { now = moment_behind h e; schema = h.schema; process = h.process; defs = h.defs; rooms = h.rooms; conns = h.conns }, first_outs rules h e ++ last_outs rules h e (idle rules.step h.rooms))
@@ -75,16 +75,16 @@ idle_step rules h e none no_room stay gone conns =
     (ap₂ (λ g d. first_outs rules h e ++ (g ++ (last_outs rules h e ds ++ d))) given disposed ∙ ap (λ l. first_outs rules h e ++ l) (append-nil (last_outs rules h e ds)))
 
 -- where the room of an id has an event that opens nothing
-pub played_step : (rules : Rules) (h : HubValue) (e : HubEvent) (id : List ℕ) (ev : RoomEvent) → ((r : HubRoom) → deals rules h e r ≡ event_if (is_named id r) ev) → makes rules h e ≡ [] → moment_behind h e ≡ h.now → ((ds : List Dealt) → conns_with h e ds ≡ h.conns)
-    → ((cs : List HubConn) (d : Dealt) → tells e cs d ≡ flat_map (told_out cs d.room.id) d.outs) → first_outs rules h e ≡ unknown_room h id → ((ds : List Dealt) → last_outs rules h e ds ≡ []) → hub_step rules h e ≡ played_in rules.step h id ev
-played_step rules h e id ev own no_room now conns tell first last =
+pub handled_step : (rules : Rules) (h : HubValue) (e : HubEvent) (id : List ℕ) (ev : RoomEvent) → ((r : HubRoom) → deals rules h e r ≡ event_if (is_named id r) ev) → makes rules h e ≡ [] → moment_behind h e ≡ h.now → ((ds : List Dealt) → conns_with h e ds ≡ h.conns)
+    → ((cs : List HubConn) (d : Dealt) → tells e cs d ≡ flat_map (told_out cs d.room.id) d.outs) → first_outs rules h e ≡ unknown_room h id → ((ds : List Dealt) → last_outs rules h e ds ≡ []) → hub_step rules h e ≡ handled_in rules.step h id ev
+handled_step rules h e id ev own no_room now conns tell first last =
     let ds = dealt_in rules.step h.rooms id ev in
-    let told : (cs : List HubConn) → flat_map (tells e cs) ds ≡ flat_map (λ (d : Dealt). flat_map (told_out cs d.room.id) d.outs) ds = λ cs. same_flat (tells e cs) (λ (d : Dealt). flat_map (told_out cs d.room.id) d.outs) (tell cs) ds in
+    let outs : (cs : List HubConn) → flat_map (tells e cs) ds ≡ flat_map (λ (d : Dealt). flat_map (told_out cs d.room.id) d.outs) ds = λ cs. same_flat (tells e cs) (λ (d : Dealt). flat_map (told_out cs d.room.id) d.outs) (tell cs) ds in
     ap (settled rules h e) (dealt_so rules h e (λ r. event_if (is_named id r) ev) own no_room)
     ∙ ap₂ (λ v o. (v, o))
     (ap₂ (λ n cs. record { now = n; schema = h.schema; process = h.process; defs = h.defs; rooms = filter is_needed (map (λ (d : Dealt). d.room) ds); conns = conns_left ds cs }) now (conns ds))
     (ap₂ (λ f l. f ++ (flat_map (tells e (conns_with h e ds)) ds ++ (l ++ disposals (map (λ (d : Dealt). d.room) ds)))) first (last ds)
-    ∙ ap (λ g. unknown_room h id ++ (g ++ disposals (map (λ (d : Dealt). d.room) ds))) (ap (λ cs. flat_map (tells e cs) ds) (conns ds) ∙ told h.conns))
+    ∙ ap (λ g. unknown_room h id ++ (g ++ disposals (map (λ (d : Dealt). d.room) ds))) (ap (λ cs. flat_map (tells e cs) ds) (conns ds) ∙ outs h.conns))
   where
     same_flat : {X Y : Type 0} (f g : X → List Y) → ((x : X) → f x ≡ g x) → (xs : List X) → flat_map f xs ≡ flat_map g xs
     same_flat f g same [] = refl

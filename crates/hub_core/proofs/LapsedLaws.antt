@@ -20,16 +20,16 @@ use Rattle.hub_model.specs.HubStep.{event_if}
 use Rattle.hub_model.specs.HubValues.{HubRoom, conn_for, is_conn_for}
 use Rattle.hub_core.proofs.IdleLaws.{and_false}
 use Rattle.hub_core.specs.declared.parts.Parts.{Parts}
-use Rattle.hub_core.specs.declared.stood.Stood.{Stood}
+use Rattle.hub_core.specs.declared.entry.RoomEntry.{RoomEntry}
 use Rattle.hub_core.specs.Endings.{ended_by, is_of, without_all}
 use Rattle.hub_core.specs.Hubs.{InOrder, IsNeeded}
 use Rattle.hub_core.specs.Lapsed.{AllLapsed, AreThere, lapsed, moment_of, told_of}
 use Rattle.hub_core.specs.Lapses.{itself}
-use Rattle.hub_core.specs.Stood.{AreAlone, AreOrdered, Each, has_id, room_in, rooms_in, serial_of}
+use Rattle.hub_core.specs.RoomEntry.{HaveOwnIds, AreOrdered, Each, has_id, room_in, rooms_in, serial_of}
 use Rattle.hub_core.specs.Turned.{Turned}
 use Rattle.hub_core.proofs.EachLaws.{Each-put, Each-weaker, There, there}
 use Rattle.hub_core.proofs.RegisteredLaws.{stepped_found}
-use Rattle.hub_core.proofs.RoomLaws.{AreAlone-put}
+use Rattle.hub_core.proofs.RoomLaws.{HaveOwnIds-put}
 use Rattle.hub_core.proofs.StandsLaws.{find_put}
 use Rattle.hub_core.proofs.SteppedLaws.{ended_any}
 
@@ -58,7 +58,7 @@ module _ {R : Type 0} (room : R → RoomValue) (step : RoomStep) (at : ℕ) wher
   ev = event.Moment at
 
   -- rooms above a number have their moments without it
-  later_same : (n low : ℕ) (rest : List ℕ) (ss : List (Stood R)) → RisesFrom serial_of low ss → n < low → lapsed room step at (n ∷ rest) ss ≡ lapsed room step at rest ss
+  later_same : (n low : ℕ) (rest : List ℕ) (ss : List (RoomEntry R)) → RisesFrom serial_of low ss → n < low → lapsed room step at (n ∷ rest) ss ≡ lapsed room step at rest ss
   later_same n low rest [] rises less = refl
   later_same n low rest (x ∷ ss) rises less =
       let other : (n == x.serial) ≡ false = grind (arith, nat_tests, rises.0, less) in
@@ -68,16 +68,16 @@ module _ {R : Type 0} (room : R → RoomValue) (step : RoomStep) (at : ℕ) wher
   none_of n rest rises m low = ap (λ b. event_if b ev) (none_below m (suc n) rest rises (grind (arith, low)))
 
   -- the room of the first number has its moment, and all others have theirs
-  module _ (n : ℕ) (s t : Stood R) (rest : List ℕ) (rises : RisesFrom itself (suc n) rest) (same : t.serial ≡ n) where
-    own_moment : (x : Stood R) → (x.serial == n) ≡ true → moment_of at (n ∷ rest) x.serial ≡ ev ∷ []
+  module _ (n : ℕ) (s t : RoomEntry R) (rest : List ℕ) (rises : RisesFrom itself (suc n) rest) (same : t.serial ≡ n) where
+    own_moment : (x : RoomEntry R) → (x.serial == n) ≡ true → moment_of at (n ∷ rest) x.serial ≡ ev ∷ []
     own_moment x here = (let turned : (n == x.serial) ≡ true = grind (arith, nat_tests, here) in ap (λ b. event_if (b || list_any (λ k. k == x.serial) rest) ev) turned)
 
-    no_moment : (x : Stood R) → x.serial < n → moment_of at (n ∷ rest) x.serial ≡ []
+    no_moment : (x : RoomEntry R) → x.serial < n → moment_of at (n ∷ rest) x.serial ≡ []
     no_moment x low =
         let other : (n == x.serial) ≡ false = grind (arith, nat_tests, low) in
         ap (λ b. event_if (b || list_any (λ k. k == x.serial) rest) ev) other ∙ none_of n rest rises x.serial (grind (arith, low))
 
-    over_first : {X : Type 0} (g : Dealt → X → X) (e : X) → ((r : HubRoom) (y : X) → g (dealt step r []) y ≡ y) → (low : ℕ) (x : Stood R) (ss : List (Stood R)) → RisesFrom serial_of low (x ∷ ss) → find_by serial_of n (x ∷ ss) ≡ Some s
+    over_first : {X : Type 0} (g : Dealt → X → X) (e : X) → ((r : HubRoom) (y : X) → g (dealt step r []) y ≡ y) → (low : ℕ) (x : RoomEntry R) (ss : List (RoomEntry R)) → RisesFrom serial_of low (x ∷ ss) → find_by serial_of n (x ∷ ss) ≡ Some s
         → (find_by serial_of n ss ≡ Some s → over g e (lapsed room step at (n ∷ rest) ss) ≡ g (dealt step (room_in room s) (ev ∷ [])) (over g e (lapsed room step at rest (put serial_of t ss))))
         → (b : Bool) → (x.serial == n) ≡ b → over g e (lapsed room step at (n ∷ rest) (x ∷ ss)) ≡ g (dealt step (room_in room s) (ev ∷ [])) (over g e (lapsed room step at rest (put serial_of t (x ∷ ss))))
     over_first g e silent low x ss rise found others true here =
@@ -85,7 +85,7 @@ module _ {R : Type 0} (room : R → RoomValue) (step : RoomStep) (at : ℕ) wher
         let place : put serial_of t (x ∷ ss) ≡ t ∷ ss = grind (arith, nat_tests, here, same) in
         let behind : lapsed room step at (n ∷ rest) ss ≡ lapsed room step at rest ss = later_same n (suc x.serial) rest ss rise.1 (grind (arith, nat_tests, here)) in
         ap₂ (λ l ds. g (dealt step (room_in room x) l) (over g e ds)) (own_moment x here) behind
-        ∙ ap (λ (y : Stood R). g (dealt step (room_in room y) (ev ∷ [])) (over g e (lapsed room step at rest ss))) one
+        ∙ ap (λ (y : RoomEntry R). g (dealt step (room_in room y) (ev ∷ [])) (over g e (lapsed room step at rest ss))) one
         ∙ ap (λ y. g (dealt step (room_in room s) (ev ∷ [])) y) (sym (ap (λ l. over g e (lapsed room step at rest l)) place ∙ (ap (λ l. g (dealt step (room_in room t) l) (over g e (lapsed room step at rest ss))) (none_of n rest rises t.serial (grind (arith, same))) ∙ silent (room_in room t) (over g e (lapsed room step at rest ss)))))
     over_first g e silent low x ss rise found others false other =
         let behind : find_by serial_of n ss ≡ Some s = rw other at found in
@@ -96,24 +96,24 @@ module _ {R : Type 0} (room : R → RoomValue) (step : RoomStep) (at : ℕ) wher
         ∙ others behind
         ∙ ap (λ y. g (dealt step (room_in room s) (ev ∷ [])) y) (sym (ap (λ l. over g e (lapsed room step at rest l)) place ∙ (ap (λ l. g (dealt step (room_in room x) l) (over g e (lapsed room step at rest (put serial_of t ss)))) (none_of n rest rises x.serial (grind (arith, low))) ∙ silent (room_in room x) (over g e (lapsed room step at rest (put serial_of t ss))))))
 
-    over_lapsed : {X : Type 0} (g : Dealt → X → X) (e : X) → ((r : HubRoom) (y : X) → g (dealt step r []) y ≡ y) → (low : ℕ) (ss : List (Stood R)) → RisesFrom serial_of low ss → find_by serial_of n ss ≡ Some s
+    over_lapsed : {X : Type 0} (g : Dealt → X → X) (e : X) → ((r : HubRoom) (y : X) → g (dealt step r []) y ≡ y) → (low : ℕ) (ss : List (RoomEntry R)) → RisesFrom serial_of low ss → find_by serial_of n ss ≡ Some s
         → over g e (lapsed room step at (n ∷ rest) ss) ≡ g (dealt step (room_in room s) (ev ∷ [])) (over g e (lapsed room step at rest (put serial_of t ss)))
     over_lapsed g e silent low [] rise found = absurd cc
     over_lapsed g e silent low (x ∷ ss) rise found = over_first g e silent low x ss rise found (λ behind. over_lapsed g e silent (suc x.serial) ss rise.1 behind) (x.serial == n) refl
 
-    pub lapsed_given : {X : Type 0} (f : Dealt → List X) → ((r : HubRoom) → f (dealt step r []) ≡ []) → (ss : List (Stood R)) → RisesFrom serial_of 0 ss → find_by serial_of n ss ≡ Some s
+    pub lapsed_given : {X : Type 0} (f : Dealt → List X) → ((r : HubRoom) → f (dealt step r []) ≡ []) → (ss : List (RoomEntry R)) → RisesFrom serial_of 0 ss → find_by serial_of n ss ≡ Some s
         → flat_map f (lapsed room step at (n ∷ rest) ss) ≡ f (dealt step (room_in room s) (ev ∷ [])) ++ flat_map f (lapsed room step at rest (put serial_of t ss))
     lapsed_given f silent ss rise found =
         over_given f (lapsed room step at (n ∷ rest) ss) ∙ over_lapsed (λ d ys. f d ++ ys) [] (λ r y. ap (λ l. l ++ y) (silent r)) 0 ss rise found
         ∙ ap (λ ys. f (dealt step (room_in room s) (ev ∷ [])) ++ ys) (sym (over_given f (lapsed room step at rest (put serial_of t ss))))
 
-    pub lapsed_any : (p : Dealt → Bool) → ((r : HubRoom) → p (dealt step r []) ≡ false) → (ss : List (Stood R)) → RisesFrom serial_of 0 ss → find_by serial_of n ss ≡ Some s
+    pub lapsed_any : (p : Dealt → Bool) → ((r : HubRoom) → p (dealt step r []) ≡ false) → (ss : List (RoomEntry R)) → RisesFrom serial_of 0 ss → find_by serial_of n ss ≡ Some s
         → list_any p (lapsed room step at (n ∷ rest) ss) ≡ p (dealt step (room_in room s) (ev ∷ [])) || list_any p (lapsed room step at rest (put serial_of t ss))
     lapsed_any p silent ss rise found =
         over_any p (lapsed room step at (n ∷ rest) ss) ∙ over_lapsed (λ d b. p d || b) false (λ r y. ap (λ b. b || y) (silent r)) 0 ss rise found
         ∙ ap (λ b. p (dealt step (room_in room s) (ev ∷ [])) || b) (sym (over_any p (lapsed room step at rest (put serial_of t ss))))
 
-    rooms_first : (low : ℕ) (x : Stood R) (ss : List (Stood R)) → room_in room t ≡ with_room (room_in room s) (step (room s.room) ev).0 → RisesFrom serial_of low (x ∷ ss) → find_by serial_of n (x ∷ ss) ≡ Some s
+    rooms_first : (low : ℕ) (x : RoomEntry R) (ss : List (RoomEntry R)) → room_in room t ≡ with_room (room_in room s) (step (room s.room) ev).0 → RisesFrom serial_of low (x ∷ ss) → find_by serial_of n (x ∷ ss) ≡ Some s
         → (find_by serial_of n ss ≡ Some s → map (λ (d : Dealt). d.room) (lapsed room step at (n ∷ rest) ss) ≡ map (λ (d : Dealt). d.room) (lapsed room step at rest (put serial_of t ss)))
         → (b : Bool) → (x.serial == n) ≡ b → map (λ (d : Dealt). d.room) (lapsed room step at (n ∷ rest) (x ∷ ss)) ≡ map (λ (d : Dealt). d.room) (lapsed room step at rest (put serial_of t (x ∷ ss)))
     rooms_first low x ss is rise found others true here =
@@ -121,7 +121,7 @@ module _ {R : Type 0} (room : R → RoomValue) (step : RoomStep) (at : ℕ) wher
         let place : put serial_of t (x ∷ ss) ≡ t ∷ ss = grind (arith, nat_tests, here, same) in
         let behind : lapsed room step at (n ∷ rest) ss ≡ lapsed room step at rest ss = later_same n (suc x.serial) rest ss rise.1 (grind (arith, nat_tests, here)) in
         ap₂ (λ l ds. (dealt step (room_in room x) l).room ∷ map (λ (d : Dealt). d.room) ds) (own_moment x here) behind
-        ∙ ap (λ (r : HubRoom). r ∷ map (λ (d : Dealt). d.room) (lapsed room step at rest ss)) (ap (λ (y : Stood R). (dealt step (room_in room y) (ev ∷ [])).room) one ∙ sym is)
+        ∙ ap (λ (r : HubRoom). r ∷ map (λ (d : Dealt). d.room) (lapsed room step at rest ss)) (ap (λ (y : RoomEntry R). (dealt step (room_in room y) (ev ∷ [])).room) one ∙ sym is)
         ∙ sym (ap (λ l. map (λ (d : Dealt). d.room) (lapsed room step at rest l)) place ∙ ap (λ l. (dealt step (room_in room t) l).room ∷ map (λ (d : Dealt). d.room) (lapsed room step at rest ss)) (none_of n rest rises t.serial (grind (arith, same))))
     rooms_first low x ss is rise found others false other =
         let behind : find_by serial_of n ss ≡ Some s = rw other at found in
@@ -130,12 +130,12 @@ module _ {R : Type 0} (room : R → RoomValue) (step : RoomStep) (at : ℕ) wher
         ap₂ (λ l rs. (dealt step (room_in room x) l).room ∷ rs) (no_moment x low) (others behind)
         ∙ sym (ap (λ l. map (λ (d : Dealt). d.room) (lapsed room step at rest l)) place ∙ ap (λ l. (dealt step (room_in room x) l).room ∷ map (λ (d : Dealt). d.room) (lapsed room step at rest (put serial_of t ss))) (none_of n rest rises x.serial (grind (arith, low))))
 
-    lapsed_from : (low : ℕ) (ss : List (Stood R)) → room_in room t ≡ with_room (room_in room s) (step (room s.room) ev).0 → RisesFrom serial_of low ss → find_by serial_of n ss ≡ Some s
+    lapsed_from : (low : ℕ) (ss : List (RoomEntry R)) → room_in room t ≡ with_room (room_in room s) (step (room s.room) ev).0 → RisesFrom serial_of low ss → find_by serial_of n ss ≡ Some s
         → map (λ (d : Dealt). d.room) (lapsed room step at (n ∷ rest) ss) ≡ map (λ (d : Dealt). d.room) (lapsed room step at rest (put serial_of t ss))
     lapsed_from low [] is rise found = absurd cc
     lapsed_from low (x ∷ ss) is rise found = rooms_first low x ss is rise found (λ behind. lapsed_from (suc x.serial) ss is rise.1 behind) (x.serial == n) refl
 
-    pub lapsed_rooms : (ss : List (Stood R)) → room_in room t ≡ with_room (room_in room s) (step (room s.room) ev).0 → RisesFrom serial_of 0 ss → find_by serial_of n ss ≡ Some s
+    pub lapsed_rooms : (ss : List (RoomEntry R)) → room_in room t ≡ with_room (room_in room s) (step (room s.room) ev).0 → RisesFrom serial_of 0 ss → find_by serial_of n ss ≡ Some s
         → map (λ (d : Dealt). d.room) (lapsed room step at (n ∷ rest) ss) ≡ map (λ (d : Dealt). d.room) (lapsed room step at rest (put serial_of t ss))
     lapsed_rooms = lapsed_from 0
 
@@ -149,7 +149,7 @@ module _ {R : Type 0} (room : R → RoomValue) (step : RoomStep) (at : ℕ) wher
         by_tests false true h = rw h refl
         by_tests false false h = rw h refl
 
-    pub lapsed_conns : (ss : List (Stood R)) (cs : List HubConn) → RisesFrom serial_of 0 ss → find_by serial_of n ss ≡ Some s
+    pub lapsed_conns : (ss : List (RoomEntry R)) (cs : List HubConn) → RisesFrom serial_of 0 ss → find_by serial_of n ss ≡ Some s
         → conns_left (lapsed room step at (n ∷ rest) ss) cs ≡ conns_left (lapsed room step at rest (put serial_of t ss)) (without_all s.id (flat_map ended_by (step (room s.room) ev).1) cs)
     lapsed_conns ss cs rise found =
         left_twice (λ c. list_any (ends c) (lapsed room step at (n ∷ rest) ss)) (is_of s.id (flat_map ended_by (step (room s.room) ev).1)) (λ c. list_any (ends c) (lapsed room step at rest (put serial_of t ss)))
@@ -193,11 +193,11 @@ given_still f g same [] = refl
 given_still f g same (o ∷ outs) = ap₂ (λ a b. a ++ b) (same o) (given_still f g same outs)
 
 -- rooms of other numbers have other ids
-abbrev pub Apart : {R : Type 0} → ℕ → List ℕ → List (Stood R) → Type 0
+abbrev pub Apart : {R : Type 0} → ℕ → List ℕ → List (RoomEntry R) → Type 0
 Apart n id [] = Unit {0}
 Apart n id (x ∷ ss) = ((x.serial == n) ≡ false → bytes_eq x.id id ≡ false) × Apart n id ss
 
-none_apart : {R : Type 0} (n : ℕ) (id : List ℕ) (ss : List (Stood R)) → find (has_id id) ss ≡ None → Apart n id ss
+none_apart : {R : Type 0} (n : ℕ) (id : List ℕ) (ss : List (RoomEntry R)) → find (has_id id) ss ≡ None → Apart n id ss
 none_apart n id [] none = tt
 none_apart {R = R} n id (x ∷ ss) none = by_first (bytes_eq x.id id) refl none (λ rest. none_apart n id ss rest)
   where
@@ -205,7 +205,7 @@ none_apart {R = R} n id (x ∷ ss) none = by_first (bytes_eq x.id id) refl none 
     by_first true here is rest = absurd cc
     by_first false other is rest = (λ apart. other, rest is)
 
-pub are_apart : {R : Type 0} (n : ℕ) (s : Stood R) (ss : List (Stood R)) → AreAlone ss → find_by serial_of n ss ≡ Some s → find (has_id s.id) ss ≡ Some s → Apart n s.id ss
+pub are_apart : {R : Type 0} (n : ℕ) (s : RoomEntry R) (ss : List (RoomEntry R)) → HaveOwnIds ss → find_by serial_of n ss ≡ Some s → find (has_id s.id) ss ≡ Some s → Apart n s.id ss
 are_apart n s [] alone found own = absurd cc
 are_apart {R = R} n s (x ∷ ss) alone found own = by_number (x.serial == n) refl found own (λ rest own. are_apart n s ss alone.1 rest own)
   where
@@ -213,16 +213,16 @@ are_apart {R = R} n s (x ∷ ss) alone found own = by_number (x.serial == n) ref
     by_id other at true here is rest =
         let one : x ≡ s = cc in
         let number : s.serial ≡ n = find_key serial_of n ss s at in
-        absurd (let k : x.serial ≡ n = ap (λ (y : Stood R). y.serial) one ∙ number in let l : (x.serial == n) ≡ true = grind (arith, nat_tests, k) in cc)
+        absurd (let k : x.serial ≡ n = ap (λ (y : RoomEntry R). y.serial) one ∙ number in let l : (x.serial == n) ≡ true = grind (arith, nat_tests, k) in cc)
     by_id other at false apart is rest = (λ h. apart, rest at is)
 
     by_number : (b : Bool) → (x.serial == n) ≡ b → cond b (Some x) (find_by serial_of n ss) ≡ Some s → find (has_id s.id) (x ∷ ss) ≡ Some s → (find_by serial_of n ss ≡ Some s → find (has_id s.id) ss ≡ Some s → Apart n s.id ss) → Apart n s.id (x ∷ ss)
     by_number true here at is rest =
         let one : x ≡ s = cc in
-        (λ other. absurd (cc), none_apart n s.id ss (subst (λ (y : Stood R). find (has_id y.id) ss ≡ None) one alone.0))
+        (λ other. absurd (cc), none_apart n s.id ss (subst (λ (y : RoomEntry R). find (has_id y.id) ss ≡ None) one alone.0))
     by_number false other at is rest = by_id other at (bytes_eq x.id s.id) refl is rest
 
-told_apart : {R : Type 0} (room : R → RoomValue) (step : RoomStep) (at n : ℕ) (id : List ℕ) (xs : List (List ℕ)) (cs : List HubConn) (rest : List ℕ) (ss : List (Stood R)) → list_any (λ k. k == n) rest ≡ false → Apart n id ss
+told_apart : {R : Type 0} (room : R → RoomValue) (step : RoomStep) (at n : ℕ) (id : List ℕ) (xs : List (List ℕ)) (cs : List HubConn) (rest : List ℕ) (ss : List (RoomEntry R)) → list_any (λ k. k == n) rest ≡ false → Apart n id ss
     → told_of cs (lapsed room step at rest ss) ≡ told_of (without_all id xs cs) (lapsed room step at rest ss)
 told_apart room step at n id xs cs rest [] none apart = refl
 told_apart {R = R} room step at n id xs cs rest (x ∷ ss) none apart = ap₂ (λ a b. a ++ b) (by_number (x.serial == n) refl) (told_apart room step at n id xs cs rest ss none apart.1)
@@ -249,9 +249,9 @@ told_apart {R = R} room step at n id xs cs rest (x ∷ ss) none apart = ap₂ (�
 -- ---- one turn after another
 
 -- the rooms of all these numbers have had their moment but for the rest
-pub record Lapsing {R : Type 0} (room : R → RoomValue) (Holds : RoomValue → Type 0) (step : RoomStep) (at : ℕ) (due rest : List ℕ) (old now : Parts R) (before told : List HubOut) : Type 0 where
+pub record Lapsing {R : Type 0} (room : R → RoomValue) (Holds : RoomValue → Type 0) (step : RoomStep) (at : ℕ) (due rest : List ℕ) (old now : Parts R) (before outs : List HubOut) : Type 0 where
   pub rooms : map (λ (d : Dealt). d.room) (lapsed room step at rest now.registry.rooms) ≡ map (λ (d : Dealt). d.room) (lapsed room step at due old.registry.rooms)
-  pub tells : told ++ told_of now.conns (lapsed room step at rest now.registry.rooms) ≡ before ++ told_of old.conns (lapsed room step at due old.registry.rooms)
+  pub tells : outs ++ told_of now.conns (lapsed room step at rest now.registry.rooms) ≡ before ++ told_of old.conns (lapsed room step at due old.registry.rooms)
   pub conns : conns_left (lapsed room step at rest now.registry.rooms) now.conns ≡ conns_left (lapsed room step at due old.registry.rooms) old.conns
   pub order : InOrder room Holds now
   pub there : AreThere due now.registry.rooms
@@ -293,28 +293,28 @@ first_there n rest = ap (λ b. b || list_any (λ k. k == n) rest) (own n)
     own : (n : ℕ) → (n == n) ≡ true
     own n = grind (arith, nat_tests)
 
-no_lapsed : {R : Type 0} (room : R → RoomValue) (step : RoomStep) (at : ℕ) (ss : List (Stood R)) → map (λ (d : Dealt). d.room) (lapsed room step at [] ss) ≡ rooms_in room ss
+no_lapsed : {R : Type 0} (room : R → RoomValue) (step : RoomStep) (at : ℕ) (ss : List (RoomEntry R)) → map (λ (d : Dealt). d.room) (lapsed room step at [] ss) ≡ rooms_in room ss
 no_lapsed room step at [] = refl
 no_lapsed room step at (x ∷ ss) = ap (λ l. room_in room x ∷ l) (no_lapsed room step at ss)
 
-no_told : {R : Type 0} (room : R → RoomValue) (step : RoomStep) (at : ℕ) (cs : List HubConn) (ss : List (Stood R)) → told_of cs (lapsed room step at [] ss) ≡ []
+no_told : {R : Type 0} (room : R → RoomValue) (step : RoomStep) (at : ℕ) (cs : List HubConn) (ss : List (RoomEntry R)) → told_of cs (lapsed room step at [] ss) ≡ []
 no_told room step at cs [] = refl
 no_told room step at cs (x ∷ ss) = no_told room step at cs ss
 
-no_ends : {R : Type 0} (room : R → RoomValue) (step : RoomStep) (at : ℕ) (c : HubConn) (ss : List (Stood R)) → list_any (ends c) (lapsed room step at [] ss) ≡ false
+no_ends : {R : Type 0} (room : R → RoomValue) (step : RoomStep) (at : ℕ) (c : HubConn) (ss : List (RoomEntry R)) → list_any (ends c) (lapsed room step at [] ss) ≡ false
 no_ends room step at c [] = refl
 no_ends room step at c (x ∷ ss) = rw (and_false (bytes_eq x.id c.room)) (no_ends room step at c ss)
 
-no_conns : {R : Type 0} (room : R → RoomValue) (step : RoomStep) (at : ℕ) (ss : List (Stood R)) (cs : List HubConn) → conns_left (lapsed room step at [] ss) cs ≡ cs
+no_conns : {R : Type 0} (room : R → RoomValue) (step : RoomStep) (at : ℕ) (ss : List (RoomEntry R)) (cs : List HubConn) → conns_left (lapsed room step at [] ss) cs ≡ cs
 no_conns room step at ss [] = refl
 no_conns room step at ss (c ∷ cs) = rw (no_ends room step at c ss) (ap (λ l. c ∷ l) (no_conns room step at ss cs))
 
 -- behind the last one
-pub lapsing_last : {R : Type 0} (room : R → RoomValue) (Holds : RoomValue → Type 0) (step : RoomStep) (at : ℕ) (due rest : List ℕ) (old now : Parts R) (before told : List HubOut) → rest ≡ [] → Lapsing room Holds step at due rest old now before told
-    → AllLapsed room Holds step at due old now before told
-lapsing_last {R = R} room Holds step at due rest old now before told none l = record {
+pub lapsing_last : {R : Type 0} (room : R → RoomValue) (Holds : RoomValue → Type 0) (step : RoomStep) (at : ℕ) (due rest : List ℕ) (old now : Parts R) (before outs : List HubOut) → rest ≡ [] → Lapsing room Holds step at due rest old now before outs
+    → AllLapsed room Holds step at due old now before outs
+lapsing_last {R = R} room Holds step at due rest old now before outs none l = record {
   rooms = sym (no_lapsed room step at now.registry.rooms) ∙ (ap (λ ks. map (λ (d : Dealt). d.room) (lapsed room step at ks now.registry.rooms)) (sym none) ∙ l.rooms);
-  told = sym (append-nil told) ∙ (ap (λ x. told ++ x) (sym (ap (λ ks. told_of now.conns (lapsed room step at ks now.registry.rooms)) none ∙ no_told room step at now.conns now.registry.rooms)) ∙ l.tells);
+  outs = sym (append-nil outs) ∙ (ap (λ x. outs ++ x) (sym (ap (λ ks. told_of now.conns (lapsed room step at ks now.registry.rooms)) none ∙ no_told room step at now.conns now.registry.rooms)) ∙ l.tells);
   conns = sym (no_conns room step at now.registry.rooms now.conns) ∙ (ap (λ ks. conns_left (lapsed room step at ks now.registry.rooms) now.conns) (sym none) ∙ l.conns);
   order = l.order;
   there = l.there;
@@ -326,18 +326,18 @@ lapsing_last {R = R} room Holds step at due rest old now before told none l = re
 }
 
 -- behind one more
-module _ {R : Type 0} (room : R → RoomValue) (is_spent : R → Bool) (Holds : RoomValue → Type 0) (step : RoomStep) (at n : ℕ) (due rest : List ℕ) (old now new : Parts R) (before told more : List HubOut) (l : Lapsing room Holds step at due (n ∷ rest) old now before told)
-    (ordered : AreOrdered now.registry.rooms) (turned : IfSome (find_by serial_of n now.registry.rooms) (λ s. Turned room is_spent step (event.Moment at) s now new told more)) (order : InOrder room Holds new) where
+module _ {R : Type 0} (room : R → RoomValue) (is_spent : R → Bool) (Holds : RoomValue → Type 0) (step : RoomStep) (at n : ℕ) (due rest : List ℕ) (old now new : Parts R) (before outs more : List HubOut) (l : Lapsing room Holds step at due (n ∷ rest) old now before outs)
+    (ordered : AreOrdered now.registry.rooms) (turned : IfSome (find_by serial_of n now.registry.rooms) (λ s. Turned room is_spent step (event.Moment at) s now new outs more)) (order : InOrder room Holds new) where
   is_due : list_any (λ k. k == n) due ≡ true
   is_due = l.within n (first_there n rest)
 
-  it : There (find_by serial_of n now.registry.rooms) (λ s. Turned room is_spent step (event.Moment at) s now new told more)
-  it = there (find_by serial_of n now.registry.rooms) (λ s. Turned room is_spent step (event.Moment at) s now new told more) (l.there n is_due) turned
+  it : There (find_by serial_of n now.registry.rooms) (λ s. Turned room is_spent step (event.Moment at) s now new outs more)
+  it = there (find_by serial_of n now.registry.rooms) (λ s. Turned room is_spent step (event.Moment at) s now new outs more) (l.there n is_due) turned
 
-  abbrev s : Stood R
+  abbrev s : RoomEntry R
   s = it.it
 
-  abbrev t : Stood R
+  abbrev t : RoomEntry R
   t = it.holds.stepped.now
 
   number : t.serial ≡ n
@@ -352,8 +352,8 @@ module _ {R : Type 0} (room : R → RoomValue) (is_spent : R → Bool) (Holds : 
   later : list_any (λ k. k == n) rest ≡ false
   later = none_below n (suc n) rest rise (grind arith)
 
-  abbrev outs : List RoomOut
-  outs = (step (room s.room) (event.Moment at)).1
+  abbrev given : List RoomOut
+  given = (step (room s.room) (event.Moment at)).1
 
   rooms_now : map (λ (d : Dealt). d.room) (lapsed room step at rest new.registry.rooms) ≡ map (λ (d : Dealt). d.room) (lapsed room step at due old.registry.rooms)
   rooms_now = ap (λ ss. map (λ (d : Dealt). d.room) (lapsed room step at rest ss)) rooms_are ∙ (sym (lapsed_rooms room step at n s t rest rise number now.registry.rooms it.holds.stepped.is ordered.0 it.is) ∙ l.rooms)
@@ -361,7 +361,7 @@ module _ {R : Type 0} (room : R → RoomValue) (is_spent : R → Bool) (Holds : 
   conns_now : conns_left (lapsed room step at rest new.registry.rooms) new.conns ≡ conns_left (lapsed room step at due old.registry.rooms) old.conns
   conns_now = ap₂ (λ ss cs. conns_left (lapsed room step at rest ss) cs) rooms_are it.holds.conns ∙ (sym (lapsed_conns room step at n s t rest rise number now.registry.rooms now.conns ordered.0 it.is) ∙ l.conns)
 
-  -- what rooms of other numbers are told
+  -- what rooms of other numbers give
   there_is : find_by serial_of t.serial now.registry.rooms ≡ Some s
   there_is = subst (λ k. find_by serial_of k now.registry.rooms ≡ Some s) (sym number) it.is
 
@@ -374,19 +374,19 @@ module _ {R : Type 0} (room : R → RoomValue) (is_spent : R → Bool) (Holds : 
   apart : Apart n s.id (put serial_of t now.registry.rooms)
   apart =
       subst (λ k. Apart n k (put serial_of t now.registry.rooms)) (sym same)
-      (are_apart n t (put serial_of t now.registry.rooms) (AreAlone-put 0 s t now.registry.rooms ordered.0 ordered.1 there_is same) found_t (find_put 0 s t now.registry.rooms t.id ordered.0 ordered.1 there_is same ∙ ap (λ b. cond b (Some t) (find (has_id t.id) now.registry.rooms)) (bytes_eq_self t.id)))
+      (are_apart n t (put serial_of t now.registry.rooms) (HaveOwnIds-put 0 s t now.registry.rooms ordered.0 ordered.1 there_is same) found_t (find_put 0 s t now.registry.rooms t.id ordered.0 ordered.1 there_is same ∙ ap (λ b. cond b (Some t) (find (has_id t.id) now.registry.rooms)) (bytes_eq_self t.id)))
 
   tells_now : more ++ told_of new.conns (lapsed room step at rest new.registry.rooms) ≡ before ++ told_of old.conns (lapsed room step at due old.registry.rooms)
   tells_now =
-      ap₂ (λ m ss. m ++ told_of new.conns (lapsed room step at rest ss)) it.holds.told rooms_are
-      ∙ ap (λ cs. (told ++ flat_map (told_out now.conns s.id) outs) ++ told_of cs (lapsed room step at rest (put serial_of t now.registry.rooms))) it.holds.conns
-      ∙ ap (λ x. (told ++ flat_map (told_out now.conns s.id) outs) ++ x) (sym (told_apart room step at n s.id (flat_map ended_by outs) now.conns rest (put serial_of t now.registry.rooms) later apart))
-      ∙ append_assoc told (flat_map (told_out now.conns s.id) outs) (told_of now.conns (lapsed room step at rest (put serial_of t now.registry.rooms)))
-      ∙ ap (λ x. told ++ x) (sym (lapsed_given room step at n s t rest rise number (λ (d : Dealt). flat_map (told_out now.conns d.room.id) d.outs) (λ r. refl) now.registry.rooms ordered.0 it.is))
+      ap₂ (λ m ss. m ++ told_of new.conns (lapsed room step at rest ss)) it.holds.outs rooms_are
+      ∙ ap (λ cs. (outs ++ flat_map (told_out now.conns s.id) given) ++ told_of cs (lapsed room step at rest (put serial_of t now.registry.rooms))) it.holds.conns
+      ∙ ap (λ x. (outs ++ flat_map (told_out now.conns s.id) given) ++ x) (sym (told_apart room step at n s.id (flat_map ended_by given) now.conns rest (put serial_of t now.registry.rooms) later apart))
+      ∙ append_assoc outs (flat_map (told_out now.conns s.id) given) (told_of now.conns (lapsed room step at rest (put serial_of t now.registry.rooms)))
+      ∙ ap (λ x. outs ++ x) (sym (lapsed_given room step at n s t rest rise number (λ (d : Dealt). flat_map (told_out now.conns d.room.id) d.outs) (λ r. refl) now.registry.rooms ordered.0 it.is))
       ∙ l.tells
 
   still_there : AreThere due new.registry.rooms
-  still_there m h = subst (λ (ss : List (Stood R)). IsSome (find_by serial_of m ss)) (sym rooms_are) (subst IsSome (sym (find-put serial_of t now.registry.rooms m)) (by_number (t.serial == m)))
+  still_there m h = subst (λ (ss : List (RoomEntry R)). IsSome (find_by serial_of m ss)) (sym rooms_are) (subst IsSome (sym (find-put serial_of t now.registry.rooms m)) (by_number (t.serial == m)))
     where
       by_number : (b : Bool) → IsSome (cond b (Some t) (find_by serial_of m now.registry.rooms))
       by_number true = refl

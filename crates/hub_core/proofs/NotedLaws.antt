@@ -6,10 +6,10 @@ use Rattle.lists.specs.Rising.{find as find_by, put, remove}
 use Rattle.lists.proofs.RisingLaws.{find-put, find-remove}
 use Rattle.room_model.specs.Ledger.{IsNextLapse, is_due}
 use Rattle.room_model.specs.Room.{RoomValue}
-use Rattle.hub_core.specs.declared.stood.Stood.{Stood}
+use Rattle.hub_core.specs.declared.entry.RoomEntry.{RoomEntry}
 use Rattle.hub_core.specs.Lapses.{has_lapse, is_moment, is_past}
 use Rattle.hub_core.specs.Noted.{AreNoted, Exchanged, IsNextOf, lapses_in}
-use Rattle.hub_core.specs.Stood.{serial_of}
+use Rattle.hub_core.specs.RoomEntry.{serial_of}
 
 -- ---- the next lapse is one
 
@@ -22,7 +22,7 @@ same_due (Some x) (Some y) h =
     let b : nat_le x y ≡ nat_le y y = h y in
     let same : x ≡ y = grind (arith, nat_tests, a, b) in ap Some same
 
-pub one_next : {R : Type 0} (room : R → RoomValue) (o : Option (Stood R)) (a b : Option ℕ) → IsNextOf room o a → IsNextOf room o b → a ≡ b
+pub one_next : {R : Type 0} (room : R → RoomValue) (o : Option (RoomEntry R)) (a b : Option ℕ) → IsNextOf room o a → IsNextOf room o b → a ≡ b
 one_next room None a b h k = h ∙ sym k
 one_next room (Some s) a b h k = same_due a b (λ now. sym (h now) ∙ k now)
 
@@ -73,11 +73,11 @@ past_due now n next ks has = by_past (is_past now n ks) refl
                 let come : is_past now n ks ≡ true = has_past now x n ks there (grind (arith, nat_tests, low)) in
                 sym past ∙ come
 
-lapses_of : {R : Type 0} (room : R → RoomValue) (now : ℕ) (o : Option (Stood R)) (next : Option ℕ) → IsNextOf room o next → is_due now next ≡ lapses_in room now o
+lapses_of : {R : Type 0} (room : R → RoomValue) (now : ℕ) (o : Option (RoomEntry R)) (next : Option ℕ) → IsNextOf room o next → is_due now next ≡ lapses_in room now o
 lapses_of room now None next none = ap (is_due now) none
 lapses_of room now (Some s) next is = sym (is now)
 
-pub noted_past : {R : Type 0} (room : R → RoomValue) (ss : List (Stood R)) (ks : List (ℕ × ℕ)) (h : AreNoted room ss ks) (now n : ℕ) → is_past now n ks ≡ lapses_in room now (find_by serial_of n ss)
+pub noted_past : {R : Type 0} (room : R → RoomValue) (ss : List (RoomEntry R)) (ks : List (ℕ × ℕ)) (h : AreNoted room ss ks) (now n : ℕ) → is_past now n ks ≡ lapses_in room now (find_by serial_of n ss)
 noted_past room ss ks h now n = past_due now n (h.next n) ks (λ at. h.has at n) ∙ lapses_of room now (find_by serial_of n ss) (h.next n) (h.of n)
 
 -- ---- a room behind a step
@@ -102,12 +102,12 @@ exchanged_has false at after before old there now same has is = is ∙ rw has (k
     kept false true o = refl
     kept false false o = refl
 
-next_of : {R : Type 0} (room : R → RoomValue) (b : Bool) (o p : Option (Stood R)) (after next : Option ℕ) → IsNextOf room o after → IsNextOf room p next → IsNextOf room (cond b o p) (cond b after next)
+next_of : {R : Type 0} (room : R → RoomValue) (b : Bool) (o p : Option (RoomEntry R)) (after next : Option ℕ) → IsNextOf room o after → IsNextOf room p next → IsNextOf room (cond b o p) (cond b after next)
 next_of room true o p after next h k = h
 next_of room false o p after next h k = k
 
 -- where the room of a number is another one now, or there is none any more, or there is one
-pub noted_with : {R : Type 0} (room : R → RoomValue) (ss ts : List (Stood R)) (ks ls : List (ℕ × ℕ)) (n : ℕ) (o : Option (Stood R)) (before after : Option ℕ)
+pub noted_with : {R : Type 0} (room : R → RoomValue) (ss ts : List (RoomEntry R)) (ks ls : List (ℕ × ℕ)) (n : ℕ) (o : Option (RoomEntry R)) (before after : Option ℕ)
     → ((m : ℕ) → find_by serial_of m ts ≡ cond (n == m) o (find_by serial_of m ss)) → IsNextOf room (find_by serial_of n ss) before → IsNextOf room o after → Exchanged n before after ks ls
     → AreNoted room ss ks → AreNoted room ts ls
 noted_with {R = R} room ss ts ks ls n o before after found was is step h = record {
@@ -122,10 +122,10 @@ noted_with {R = R} room ss ts ks ls n o before after found was is step h = recor
         one_next room (find_by serial_of n ss) before (h.next m) was (subst (λ k. IsNextOf room (find_by serial_of k ss) (h.next m)) number (h.of m))
 
 -- a room is exchanged for itself behind a step, added, or taken out
-pub AreNoted-put : {R : Type 0} (room : R → RoomValue) (ss : List (Stood R)) (ks ls : List (ℕ × ℕ)) (t : Stood R) (before after : Option ℕ) → IsNextOf room (find_by serial_of t.serial ss) before
+pub AreNoted-put : {R : Type 0} (room : R → RoomValue) (ss : List (RoomEntry R)) (ks ls : List (ℕ × ℕ)) (t : RoomEntry R) (before after : Option ℕ) → IsNextOf room (find_by serial_of t.serial ss) before
     → IsNextLapse (room t.room).seats after → Exchanged t.serial before after ks ls → AreNoted room ss ks → AreNoted room (put serial_of t ss) ls
 AreNoted-put room ss ks ls t before after was is step h = noted_with room ss (put serial_of t ss) ks ls t.serial (Some t) before after (find-put serial_of t ss) was is step h
 
-pub AreNoted-remove : {R : Type 0} (room : R → RoomValue) (ss : List (Stood R)) (ks ls : List (ℕ × ℕ)) (n : ℕ) (before : Option ℕ) → IsNextOf room (find_by serial_of n ss) before
+pub AreNoted-remove : {R : Type 0} (room : R → RoomValue) (ss : List (RoomEntry R)) (ks ls : List (ℕ × ℕ)) (n : ℕ) (before : Option ℕ) → IsNextOf room (find_by serial_of n ss) before
     → Exchanged n before None ks ls → AreNoted room ss ks → AreNoted room (remove serial_of n ss) ls
 AreNoted-remove room ss ks ls n before was step h = noted_with room ss (remove serial_of n ss) ks ls n None before None (find-remove serial_of n ss) was refl step h

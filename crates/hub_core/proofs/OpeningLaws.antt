@@ -1,11 +1,13 @@
 -- Openings, as a hub's step has them.
-use Rattle.std.proofs.Common.{◌≡◌, ℕ, ◌&&◌, ◌++◌, Bool, true, false, not, List, [], ◌∷◌, Option, Some, None, Result, Ok, Err, OnOk, filter, map, refl, sym, ap, ap₂, subst, ◌∙◌, cond, append-nil}
+use Rattle.std.proofs.Common.{◌≡◌, ℕ, ◌≤◌, ◌+◌, ◌&&◌, ◌++◌, Bool, true, false, not, List, [], ◌∷◌, Option, Some, None, Result, Ok, Err, OnOk, filter, map, refl, sym, ap, ap₂, subst, ◌∙◌, cond, append-nil}
 use Rattle.std.specs.Prelude.{codes, is_some, IsSome}
 use Rattle.std.specs.List.{find, flat_map}
 use Rattle.std.specs.Option.{option_and_then, option_map}
 use Rattle.std.specs.Str.{bytes_eq}
 use Rattle.std.proofs.lemmas.Bool.{and_parts}
 use Rattle.lists.specs.Rising.{find as find_by}
+use Rattle.room_model.specs.declared.event.RoomEvent.{RoomEvent}
+use Rattle.room_model.specs.declared.event.RoomEvent.TheVariants as event
 use Rattle.room_model.specs.declared.refusal.Refusal.TheVariants as refusal
 use Rattle.room_model.specs.Room.{RoomValue}
 use Rattle.hub_model.specs.declared.conn.HubConn.{HubConn}
@@ -19,14 +21,16 @@ use Rattle.hub_model.specs.HubStep.{Rules, disposals, entered_conns, event_of_op
 use Rattle.hub_model.specs.HubValues.{HubValue, conn_number, conn_of, room_of}
 use Rattle.hub_model.specs.Openings.{read_target}
 use Rattle.hub_core.specs.declared.parts.Parts.{Parts}
-use Rattle.hub_core.specs.declared.stood.Stood.{Stood}
+use Rattle.hub_core.specs.declared.entry.RoomEntry.{RoomEntry}
+use Rattle.hub_core.specs.Costs.{cost_in, hub_cost}
 use Rattle.hub_core.specs.Hubs.{Stands, hub_of}
-use Rattle.hub_core.specs.Played.{dealt_to, entered_in}
-use Rattle.hub_core.specs.Stood.{AreOrdered, has_id, room_in, rooms_in}
+use Rattle.hub_core.specs.Handled.{dealt_to, entered_in}
+use Rattle.hub_core.specs.RoomEntry.{AreOrdered, has_id, room_in, rooms_in}
 use Rattle.hub_core.specs.Takes.{Takes, rules_of}
+use Rattle.hub_core.proofs.CostLaws.{event_cost}
 use Rattle.hub_core.proofs.IdleLaws.{dealt_so, idle, idle_step}
-use Rattle.hub_core.proofs.PlayLaws.{room_found}
-use Rattle.hub_core.proofs.UnplayedLaws.{all_stay, none_go}
+use Rattle.hub_core.proofs.HandleLaws.{room_found}
+use Rattle.hub_core.proofs.UnhandledLaws.{all_stay, none_go}
 
 -- ---- which one gets further
 
@@ -76,7 +80,7 @@ opens_there {R = R} room p target o is = by_target (read_target target) is
     known : (r : List ℕ) → is_some (room_of (hub_of room p) r) ≡ is_some (find (has_id r) p.registry.rooms)
     known r = ap is_some (room_found room r p.registry.rooms) ∙ same (find (has_id r) p.registry.rooms)
       where
-        same : (q : Option (Stood R)) → is_some (option_map (room_in room) q) ≡ is_some q
+        same : (q : Option (RoomEntry R)) → is_some (option_map (room_in room) q) ≡ is_some q
         same None = refl
         same (Some s) = refl
 
@@ -94,31 +98,38 @@ pub is_free : {X : Type 0} (o : Option X) → is_some o ≡ false → o ≡ None
 is_free None h = refl
 is_free (Some x) h = absurd cc
 
-module _ {R : Type 0} (room : R → RoomValue) (Holds : RoomValue → Type 0) (step : RoomStep) (p : Parts R) (stood : Stands room Holds p) (ordered : AreOrdered p.registry.rooms) (conn : ℕ) (target fresh : List ℕ) (before after : List HubOut) where
+module _ {R : Type 0} (room : R → RoomValue) (Holds : RoomValue → Type 0) (step : RoomStep) (p : Parts R) (entry : Stands room Holds p) (ordered : AreOrdered p.registry.rooms) (conn : ℕ) (target fresh : List ℕ) (before after : List HubOut) where
   stay : filter is_needed (rooms_in room p.registry.rooms) ≡ rooms_in room p.registry.rooms
-  stay = all_stay room 0 p.registry.rooms ordered.0 stood.needed
+  stay = all_stay room 0 p.registry.rooms ordered.0 entry.needed
 
   gone : filter (λ r. not (is_needed r)) (rooms_in room p.registry.rooms) ≡ []
-  gone = none_go room 0 p.registry.rooms ordered.0 stood.needed
+  gone = none_go room 0 p.registry.rooms ordered.0 entry.needed
 
   refused : (outs : List HubOut) → hub_step (rules_of step) (hub_of room p) (happened.Opening conn target fresh) ≡ (hub_of room p, outs) → after ≡ before ++ outs → Takes room Holds step (happened.Opening conn target fresh) p p before after
-  refused outs is told = record { hub = sym (ap (λ x. x.0) is); told = told ∙ sym (ap (λ x. before ++ x.1) is); stands = stood }
+  refused outs is gives = record { hub = sym (ap (λ x. x.0) is); outs = gives ∙ sym (ap (λ x. before ++ x.1) is); stands = entry }
 
   pub opening_used : is_some (find_by conn_number conn p.conns) ≡ true → after ≡ before ++ out.Refused refusal.ConnInUse ∷ [] → Takes room Holds step (happened.Opening conn target fresh) p p before after
-  opening_used some told = by_found (find_by conn_number conn p.conns) refl some
+  opening_used some outs = by_found (find_by conn_number conn p.conns) refl some
     where
       by_found : (o : Option HubConn) → find_by conn_number conn p.conns ≡ o → is_some o ≡ true → Takes room Holds step (happened.Opening conn target fresh) p p before after
       by_found None is some = absurd cc
-      by_found (Some c) is some = refused (out.Refused refusal.ConnInUse ∷ []) (used_step (rules_of step) (hub_of room p) conn target fresh c is stay gone) told
+      by_found (Some c) is some = refused (out.Refused refusal.ConnInUse ∷ []) (used_step (rules_of step) (hub_of room p) conn target fresh c is stay gone) outs
 
   pub opening_nowhere : is_some (find_by conn_number conn p.conns) ≡ false → None ≡ opening_of (hub_of room p) target → after ≡ before ++ refused_opening conn 4212 (codes "no such room") → Takes room Holds step (happened.Opening conn target fresh) p p before after
-  opening_nowhere free none told =
-      refused (refused_opening conn 4212 (codes "no such room")) (nowhere_step (rules_of step) (hub_of room p) conn target fresh (is_free (find_by conn_number conn p.conns) free) (sym none) stay gone) told
+  opening_nowhere free none outs =
+      refused (refused_opening conn 4212 (codes "no such room")) (nowhere_step (rules_of step) (hub_of room p) conn target fresh (is_free (find_by conn_number conn p.conns) free) (sym none) stay gone) outs
 
 pub takes_entered : {R A E : Type 0} (room : R → RoomValue) (Holds : RoomValue → Type 0) (step : RoomStep) (old new : Parts R) (before after : List HubOut) (conn : ℕ) (target fresh : List ℕ) (o : Opening) (r : Result A E)
     → is_some (find_by conn_number conn old.conns) ≡ false → Some o ≡ opening_of (hub_of room old) target → OnOk r (hub_of room new ≡ (entered_in step (hub_of room old) conn fresh o).0) → OnOk r (after ≡ before ++ (entered_in step (hub_of room old) conn fresh o).1)
     → OnOk r (Stands room Holds new) → OnOk r (Takes room Holds step (happened.Opening conn target fresh) old new before after)
-takes_entered room Holds step old new before after conn target fresh o (Ok a) free opens hub told stands =
+takes_entered room Holds step old new before after conn target fresh o (Ok a) free opens hub outs stands =
     let is = entered_step (rules_of step) (hub_of room old) conn target fresh o (is_free (find_by conn_number conn old.conns) free) (sym opens) in
-    record { hub = hub ∙ sym (ap (λ x. x.0) is); told = told ∙ sym (ap (λ x. before ++ x.1) is); stands = stands }
-takes_entered room Holds step old new before after conn target fresh o (Err f) free opens hub told stands = tt
+    record { hub = hub ∙ sym (ap (λ x. x.0) is); outs = outs ∙ sym (ap (λ x. before ++ x.1) is); stands = stands }
+takes_entered room Holds step old new before after conn target fresh o (Err f) free opens hub outs stands = tt
+
+-- it costs no more than the event
+pub opening_cost : {R : Type 0} (room : R → RoomValue) (costs : RoomValue → RoomEvent → ℕ) (step : RoomStep) (p : Parts R) (conn : ℕ) (target fresh : List ℕ) (o : Opening) (new old : ℕ) → is_some (find_by conn_number conn p.conns) ≡ false
+    → Some o ≡ opening_of (hub_of room p) target → new ≤ old + cost_in room costs p.registry.rooms o.room (event.Enter o.session o.token fresh) → new ≤ old + hub_cost costs (rules_of step) (hub_of room p) (happened.Opening conn target fresh)
+opening_cost room costs step p conn target fresh o new old free opens cost =
+    let opened : opened_by (hub_of room p) conn target ≡ Some o = free_opens (hub_of room p) conn target (is_free (find_by conn_number conn p.conns) free) ∙ sym opens in
+    event_cost room costs (rules_of step) p (happened.Opening conn target fresh) o.room (event.Enter o.session o.token fresh) new old (λ r. ap (event_of_opening r fresh) opened) cost

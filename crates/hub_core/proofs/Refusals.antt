@@ -5,7 +5,7 @@ use Rattle.std.specs.List.{list_all}
 use Rattle.std.proofs.lemmas.Bool.{and_parts}
 use Rattle.std.proofs.lemmas.Bool.Decides.{nat_tests}
 use Rattle.hub_model.specs.Dealt.{in_use_text}
-use Rattle.hub_model.specs.Ids.{is_id, is_id_byte}
+use Rattle.schema_model.specs.Ids.{is_id, is_id_byte}
 
 pub short_in_use : (id : List ℕ) → is_id id ≡ true → length (in_use_text id) < 2 ^ 32
 short_in_use id h =

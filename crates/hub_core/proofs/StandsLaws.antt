@@ -19,16 +19,16 @@ use Rattle.room_laws.specs.StepLaws.{connected, is_end, is_entry}
 use Rattle.hub_model.specs.declared.conn.HubConn.{HubConn}
 use Rattle.hub_model.specs.Dealt.{RoomStep}
 use Rattle.hub_model.specs.HubStep.{is_needed}
-use Rattle.hub_model.specs.Ids.{is_id}
+use Rattle.schema_model.specs.Ids.{is_id}
 use Rattle.hub_core.specs.declared.parts.Parts.{Parts}
 use Rattle.hub_core.specs.declared.registry.Registry.{Registry}
-use Rattle.hub_core.specs.declared.stood.Stood.{Stood}
+use Rattle.hub_core.specs.declared.entry.RoomEntry.{RoomEntry}
 use Rattle.hub_core.specs.Endings.{ended_by, is_of, without_all}
-use Rattle.hub_core.specs.Homes.{IsHoused}
+use Rattle.hub_core.specs.SessionRooms.{IsHoused}
 use Rattle.hub_core.specs.Hubs.{InOrder, IsGood, IsNeeded, Stands, is_of_one}
 use Rattle.hub_core.specs.Lawful.{Lawful}
 use Rattle.hub_core.specs.Registered.{IsKept}
-use Rattle.hub_core.specs.Stood.{AreAlone, AreOrdered, Each, has_id, room_in, serial_of}
+use Rattle.hub_core.specs.RoomEntry.{HaveOwnIds, AreOrdered, Each, has_id, room_in, serial_of}
 use Rattle.hub_core.proofs.EachLaws.{Each-put, Each-remove, of_there, there}
 use Rattle.hub_core.proofs.SteppedLaws.{ended_any}
 use Rattle.hub_core.proofs.RoomLaws.{find_without}
@@ -36,7 +36,7 @@ use Rattle.hub_core.proofs.RoomLaws.{find_without}
 -- ---- rooms by their ids
 
 -- what isn't found isn't the one of a number
-pub missed : {R : Type 0} (p : Stood R → Bool) (n : ℕ) (s : Stood R) (ss : List (Stood R)) → find p ss ≡ None → find_by serial_of n ss ≡ Some s → p s ≡ false
+pub missed : {R : Type 0} (p : RoomEntry R → Bool) (n : ℕ) (s : RoomEntry R) (ss : List (RoomEntry R)) → find p ss ≡ None → find_by serial_of n ss ≡ Some s → p s ≡ false
 missed p n s [] none found = absurd cc
 missed {R = R} p n s (x ∷ ss) none found = by_first (p x) refl none (x.serial == n) refl found (λ rest found. missed p n s ss rest found)
   where
@@ -45,17 +45,17 @@ missed {R = R} p n s (x ∷ ss) none found = by_first (p x) refl none (x.serial 
     by_first false other is true at found rest = (let one : x ≡ s = cc in subst (λ y. p y ≡ false) one other)
     by_first false other is false at found rest = rest is found
 
-pub find_put : {R : Type 0} (low : ℕ) (s t : Stood R) (ss : List (Stood R)) (id : List ℕ) → RisesFrom serial_of low ss → AreAlone ss → find_by serial_of t.serial ss ≡ Some s → s.id ≡ t.id
+pub find_put : {R : Type 0} (low : ℕ) (s t : RoomEntry R) (ss : List (RoomEntry R)) (id : List ℕ) → RisesFrom serial_of low ss → HaveOwnIds ss → find_by serial_of t.serial ss ≡ Some s → s.id ≡ t.id
     → find (has_id id) (put serial_of t ss) ≡ cond (bytes_eq t.id id) (Some t) (find (has_id id) ss)
 find_put low s t [] id rises alone found same = absurd cc
 find_put {R = R} low s t (x ∷ ss) id rises alone found same = by_first (x.serial == t.serial) refl (λ rest. find_put (suc x.serial) s t ss id rises.1 alone.1 rest same)
   where
-    either : (a b : Bool) (tail : Option (Stood R)) → (a ≡ true → b ≡ false) → cond a (Some x) (cond b (Some t) tail) ≡ cond b (Some t) (cond a (Some x) tail)
+    either : (a b : Bool) (tail : Option (RoomEntry R)) → (a ≡ true → b ≡ false) → cond a (Some x) (cond b (Some t) tail) ≡ cond b (Some t) (cond a (Some x) tail)
     either true true tail apart = absurd (let k = apart refl in cc)
     either true false tail apart = refl
     either false b tail apart = refl
 
-    twice : (b : Bool) (tail : Option (Stood R)) → cond b (Some t) tail ≡ cond b (Some t) (cond b (Some x) tail)
+    twice : (b : Bool) (tail : Option (RoomEntry R)) → cond b (Some t) tail ≡ cond b (Some t) (cond b (Some x) tail)
     twice true tail = refl
     twice false tail = refl
 
@@ -64,7 +64,7 @@ find_put {R = R} low s t (x ∷ ss) id rises alone found same = by_first (x.seri
     by_first true here others =
         let one : x ≡ s = (let k : Some x ≡ Some s = rw here at found in cc) in
         let place : put serial_of t (x ∷ ss) ≡ t ∷ ss = grind (arith, nat_tests, here) in
-        let name : t.id ≡ x.id = sym (ap (λ (y : Stood R). y.id) one ∙ same) in
+        let name : t.id ≡ x.id = sym (ap (λ (y : RoomEntry R). y.id) one ∙ same) in
         ap (find (has_id id)) place ∙ twice (bytes_eq t.id id) (find (has_id id) ss) ∙ ap (λ n. cond (bytes_eq t.id id) (Some t) (cond (bytes_eq n id) (Some x) (find (has_id id) ss))) name
     by_first false other others =
         let rest : find_by serial_of t.serial ss ≡ Some s = rw other at found in
@@ -104,10 +104,10 @@ all_left q r p each (c ∷ cs) all = by_test (p c) refl (all_left q r p each cs 
 
 -- ---- rooms that are needed
 
-pub all_needed : {R : Type 0} (room : R → RoomValue) (n : ℕ) (t : Stood R) (ss : List (Stood R)) → find_by serial_of n ss ≡ Some t → is_needed (room_in room t) ≡ true → Each (λ s. (s.serial == n) ≡ false → IsNeeded room s) ss → Each (IsNeeded room) ss
+pub all_needed : {R : Type 0} (room : R → RoomValue) (n : ℕ) (t : RoomEntry R) (ss : List (RoomEntry R)) → find_by serial_of n ss ≡ Some t → is_needed (room_in room t) ≡ true → Each (λ s. (s.serial == n) ≡ false → IsNeeded room s) ss → Each (IsNeeded room) ss
 all_needed {R = R} room n t ss there own others k = by_found (find_by serial_of k ss) refl (others k)
   where
-    by_number : (s : Stood R) → find_by serial_of k ss ≡ Some s → (b : Bool) → (s.serial == n) ≡ b → ((s.serial == n) ≡ false → IsNeeded room s) → IsNeeded room s
+    by_number : (s : RoomEntry R) → find_by serial_of k ss ≡ Some s → (b : Bool) → (s.serial == n) ≡ b → ((s.serial == n) ≡ false → IsNeeded room s) → IsNeeded room s
     by_number s is true here h =
         let key : s.serial ≡ k = find_key serial_of k ss s is in
         let number : k ≡ n = grind (arith, nat_tests, key, here) in
@@ -116,14 +116,14 @@ all_needed {R = R} room n t ss there own others k = by_found (find_by serial_of 
         subst (IsNeeded room) (sym same) own
     by_number s is false other h = h other
 
-    by_found : (o : Option (Stood R)) → find_by serial_of k ss ≡ o → IfSome o (λ s. (s.serial == n) ≡ false → IsNeeded room s) → IfSome o (IsNeeded room)
+    by_found : (o : Option (RoomEntry R)) → find_by serial_of k ss ≡ o → IfSome o (λ s. (s.serial == n) ≡ false → IsNeeded room s) → IfSome o (IsNeeded room)
     by_found None is h = tt
     by_found (Some s) is h = by_number s is (s.serial == n) refl h
 
-needed_without : {R : Type 0} (room : R → RoomValue) (n : ℕ) (ss : List (Stood R)) → Each (λ s. (s.serial == n) ≡ false → IsNeeded room s) ss → Each (IsNeeded room) (remove serial_of n ss)
+needed_without : {R : Type 0} (room : R → RoomValue) (n : ℕ) (ss : List (RoomEntry R)) → Each (λ s. (s.serial == n) ≡ false → IsNeeded room s) ss → Each (IsNeeded room) (remove serial_of n ss)
 needed_without {R = R} room n ss others k = subst (λ o. IfSome o (IsNeeded room)) (sym (find-remove serial_of n ss k)) (by_number (n == k) refl)
   where
-    by_found : (n == k) ≡ false → (o : Option (Stood R)) → find_by serial_of k ss ≡ o → IfSome o (λ s. (s.serial == n) ≡ false → IsNeeded room s) → IfSome o (IsNeeded room)
+    by_found : (n == k) ≡ false → (o : Option (RoomEntry R)) → find_by serial_of k ss ≡ o → IfSome o (λ s. (s.serial == n) ≡ false → IsNeeded room s) → IfSome o (IsNeeded room)
     by_found apart None is h = tt
     by_found apart (Some s) is h =
         let key : s.serial ≡ k = find_key serial_of k ss s is in
@@ -135,7 +135,7 @@ needed_without {R = R} room n ss others k = subst (λ o. IfSome o (IsNeeded room
     by_number false apart = by_found apart (find_by serial_of k ss) refl (others k)
 
 -- the room of a number is the one of its id
-pub found_own : {R : Type 0} (low n : ℕ) (t : Stood R) (ss : List (Stood R)) → RisesFrom serial_of low ss → AreAlone ss → find_by serial_of n ss ≡ Some t → find (has_id t.id) ss ≡ Some t
+pub found_own : {R : Type 0} (low n : ℕ) (t : RoomEntry R) (ss : List (RoomEntry R)) → RisesFrom serial_of low ss → HaveOwnIds ss → find_by serial_of n ss ≡ Some t → find (has_id t.id) ss ≡ Some t
 found_own low n t [] rises alone there = absurd cc
 found_own {R = R} low n t (x ∷ ss) rises alone there = by_first (x.serial == n) there (λ rest. found_own (suc x.serial) n t ss rises.1 alone.1 rest)
   where
@@ -153,10 +153,10 @@ found_own {R = R} low n t (x ∷ ss) rises alone there = by_first (x.serial == n
     by_first false at rest = by_id at (rest at) (bytes_eq x.id t.id) refl
 
 -- a room behind an event
-module _ {R : Type 0} (room : R → RoomValue) (Holds : RoomValue → Type 0) (happens : RoomStep) (laws : Lawful Holds happens) (ev : RoomEvent) (s t : Stood R) (ss : List (Stood R)) (ordered : AreOrdered ss)
-    (found : find (has_id s.id) ss ≡ Some s) (there : find_by serial_of t.serial ss ≡ Some s) (same : s.id ≡ t.id) (now : room t.room ≡ (happens (room s.room) ev).0) (good : IsGood room Holds s) (may : may_happen (room s.room) ev ≡ true) where
+module _ {R : Type 0} (room : R → RoomValue) (Holds : RoomValue → Type 0) (handled : RoomStep) (laws : Lawful Holds handled) (ev : RoomEvent) (s t : RoomEntry R) (ss : List (RoomEntry R)) (ordered : AreOrdered ss)
+    (found : find (has_id s.id) ss ≡ Some s) (there : find_by serial_of t.serial ss ≡ Some s) (same : s.id ≡ t.id) (now : room t.room ≡ (handled (room s.room) ev).0) (good : IsGood room Holds s) (may : may_happen (room s.room) ev ≡ true) where
   abbrev outs : List RoomOut
-  outs = (happens (room s.room) ev).1
+  outs = (handled (room s.room) ev).1
 
   -- a connection that was there, or that the event opens
   abbrev pub may_stay : HubConn → Bool
@@ -178,7 +178,7 @@ module _ {R : Type 0} (room : R → RoomValue) (Holds : RoomValue → Type 0) (h
       or_false true h = refl
       or_false false h = h
 
-      by_entry : (b : Bool) → list_any (is_entry session) outs ≡ b → (connected (room s.room) session || b) ≡ true → connected (happens (room s.room) ev).0 session ≡ true
+      by_entry : (b : Bool) → list_any (is_entry session) outs ≡ b → (connected (room s.room) session || b) ≡ true → connected (handled (room s.room) ev).0 session ≡ true
       by_entry true enters h = ((laws.tells (room s.room) ev good.holds may).entered session enters).2
       by_entry false none h = (laws.tells (room s.room) ev good.holds may).others session none ∙ both (connected (room s.room) session) (list_any (is_end session) outs) (or_false (connected (room s.room) session) h) stays
 
@@ -192,7 +192,7 @@ module _ {R : Type 0} (room : R → RoomValue) (Holds : RoomValue → Type 0) (h
   stays : (c : HubConn) → may_stay c ≡ true → is_of s.id (flat_map ended_by outs) c ≡ false → is_of_one room (put serial_of t ss) c ≡ true
   stays c was left = by_room (bytes_eq c.room s.id) refl was left
     where
-      one_of : Option (Stood R) → Bool
+      one_of : Option (RoomEntry R) → Bool
       one_of o = option_map_or (λ s. connected (room s.room) c.session) o false
 
       or_neither : (a : Bool) → (a || false) ≡ true → a ≡ true
@@ -232,8 +232,8 @@ module _ {R : Type 0} (room : R → RoomValue) (Holds : RoomValue → Type 0) (h
 
 -- ---- a room is taken out where no place of it is in use
 
-module _ {R : Type 0} (room : R → RoomValue) (Holds : RoomValue → Type 0) (happens : RoomStep) (laws : Lawful Holds happens) (old : Parts R) (order : InOrder room Holds old) (ordered : AreOrdered old.registry.rooms)
-    (n : ℕ) (t : Stood R) (there : find_by serial_of n old.registry.rooms ≡ Some t) (left : Registry R) (left_are : left.rooms ≡ (if is_needed (room_in room t) then old.registry.rooms else remove serial_of n old.registry.rooms)) where
+module _ {R : Type 0} (room : R → RoomValue) (Holds : RoomValue → Type 0) (handled : RoomStep) (laws : Lawful Holds handled) (old : Parts R) (order : InOrder room Holds old) (ordered : AreOrdered old.registry.rooms)
+    (n : ℕ) (t : RoomEntry R) (there : find_by serial_of n old.registry.rooms ≡ Some t) (left : Registry R) (left_are : left.rooms ≡ (if is_needed (room_in room t) then old.registry.rooms else remove serial_of n old.registry.rooms)) where
   is_taken : (k : ℕ) → 1 ≤ k → nat_lt 0 k ≡ true
   is_taken k h = grind (arith, nat_tests, h)
 
@@ -243,7 +243,7 @@ module _ {R : Type 0} (room : R → RoomValue) (Holds : RoomValue → Type 0) (h
   stays_left : (c : HubConn) → is_of_one room old.registry.rooms c ≡ true → is_needed (room_in room t) ≡ false → is_of_one room (remove serial_of n old.registry.rooms) c ≡ true
   stays_left c was gone = ap one_of (find_without 0 n t old.registry.rooms c.room ordered.0 ordered.1 there) ∙ by_room (bytes_eq t.id c.room) refl
     where
-      one_of : Option (Stood R) → Bool
+      one_of : Option (RoomEntry R) → Bool
       one_of o = option_map_or (λ s. connected (room s.room) c.session) o false
 
       by_room : (b : Bool) → bytes_eq t.id c.room ≡ b → one_of (cond b None (find (has_id c.room) old.registry.rooms)) ≡ true
@@ -266,24 +266,24 @@ module _ {R : Type 0} (room : R → RoomValue) (Holds : RoomValue → Type 0) (h
       by_need true is = order.conns
       by_need false is = all_stay old.conns order.conns is
 
-  each_left : (P : Stood R → Type 0) → Each P old.registry.rooms → Each P left.rooms
+  each_left : (P : RoomEntry R → Type 0) → Each P old.registry.rooms → Each P left.rooms
   each_left P all = subst (Each P) (sym left_are) (by_need (is_needed (room_in room t)))
     where
       by_need : (b : Bool) → Each P (cond b old.registry.rooms (remove serial_of n old.registry.rooms))
       by_need true = all
       by_need false = Each-remove P n old.registry.rooms all
 
-  pub order_left : (new : Parts R) → new.registry ≡ left → new.conns ≡ old.conns → new.moment ≡ old.moment → new.defs ≡ old.defs → new.process ≡ old.process → new.homes ≡ old.homes → IsKept room left → length left.shelves.items ≡ length old.registry.shelves.items → InOrder room Holds new
-  order_left new registry conns moment defs process homes kept count = record {
+  pub order_left : (new : Parts R) → new.registry ≡ left → new.conns ≡ old.conns → new.moment ≡ old.moment → new.defs ≡ old.defs → new.process ≡ old.process → new.session_rooms ≡ old.session_rooms → IsKept room left → length left.open_rooms.items ≡ length old.registry.open_rooms.items → InOrder room Holds new
+  order_left new registry conns moment defs process session_rooms kept count = record {
     kept = rw registry kept;
-    shelves = ap (λ (g : Registry R). length g.shelves.items) registry ∙ (count ∙ (order.shelves ∙ ap length (sym defs)));
+    opens = ap (λ (g : Registry R). length g.open_rooms.items) registry ∙ (count ∙ (order.opens ∙ ap length (sym defs)));
     rooms = subst (λ (g : Registry R). Each (IsGood room Holds) g.rooms) (sym registry) (each_left (IsGood room Holds) order.rooms);
     conns = ap₂ (λ (g : Registry R) cs. list_all (is_of_one room g.rooms) cs) registry conns ∙ conns_left;
     early = rw moment order.early;
     few = rw defs order.few;
     forms = rw defs order.forms;
     process = rw process order.process;
-    housed = subst (λ (g : Registry R). Each (IsHoused room new.homes) g.rooms) (sym registry) (subst (λ hs. Each (IsHoused room hs) left.rooms) (sym homes) (each_left (IsHoused room old.homes) order.housed));
+    housed = subst (λ (g : Registry R). Each (IsHoused room new.session_rooms) g.rooms) (sym registry) (subst (λ hs. Each (IsHoused room hs) left.rooms) (sym session_rooms) (each_left (IsHoused room old.session_rooms) order.housed));
   }
 
   -- where the others were needed, all are
@@ -295,13 +295,13 @@ module _ {R : Type 0} (room : R → RoomValue) (Holds : RoomValue → Type 0) (h
       by_need false is = needed_without room n old.registry.rooms others
 
 -- so it is in order behind a room that is disposed of where no place of it is in use
-pub stands_left : {R : Type 0} (room : R → RoomValue) (Holds : RoomValue → Type 0) (happens : RoomStep) (laws : Lawful Holds happens) (n : ℕ) (old new : Parts R) (left : Registry R) → InOrder room Holds old → AreOrdered old.registry.rooms
+pub stands_left : {R : Type 0} (room : R → RoomValue) (Holds : RoomValue → Type 0) (handled : RoomStep) (laws : Lawful Holds handled) (n : ℕ) (old new : Parts R) (left : Registry R) → InOrder room Holds old → AreOrdered old.registry.rooms
     → IsSome (find_by serial_of n old.registry.rooms) → Each (λ s. (s.serial == n) ≡ false → IsNeeded room s) old.registry.rooms
     → IfSome (find_by serial_of n old.registry.rooms) (λ t. left.rooms ≡ (if is_needed (room_in room t) then old.registry.rooms else remove serial_of n old.registry.rooms))
-    → IsKept room left → length left.shelves.items ≡ length old.registry.shelves.items → new.registry ≡ left → new.conns ≡ old.conns → new.moment ≡ old.moment → new.defs ≡ old.defs → new.process ≡ old.process → new.homes ≡ old.homes → Stands room Holds new
-stands_left room Holds happens laws n old new left order ordered some others left_are kept count registry conns moment defs process homes =
+    → IsKept room left → length left.open_rooms.items ≡ length old.registry.open_rooms.items → new.registry ≡ left → new.conns ≡ old.conns → new.moment ≡ old.moment → new.defs ≡ old.defs → new.process ≡ old.process → new.session_rooms ≡ old.session_rooms → Stands room Holds new
+stands_left room Holds handled laws n old new left order ordered some others left_are kept count registry conns moment defs process session_rooms =
     let it = there (find_by serial_of n old.registry.rooms) (λ t. left.rooms ≡ (if is_needed (room_in room t) then old.registry.rooms else remove serial_of n old.registry.rooms)) some left_are in
     record {
-      order = order_left room Holds happens laws old order ordered n it.it it.is left it.holds new registry conns moment defs process homes kept count;
-      needed = rw registry (needed_left room Holds happens laws old order ordered n it.it it.is left it.holds others);
+      order = order_left room Holds handled laws old order ordered n it.it it.is left it.holds new registry conns moment defs process session_rooms kept count;
+      needed = rw registry (needed_left room Holds handled laws old order ordered n it.it it.is left it.holds others);
     }

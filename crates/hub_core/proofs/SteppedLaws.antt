@@ -17,21 +17,21 @@ use Rattle.hub_model.specs.HubValues.{HubRoom}
 use Rattle.hub_model.specs.HubStep.{disposals, is_needed}
 use Rattle.hub_model.specs.Dealt.{Dealt, RoomStep, conns_left, dealt, ends, with_room}
 use Rattle.hub_core.proofs.IdleLaws.{and_false}
-use Rattle.hub_core.specs.declared.stood.Stood.{Stood}
+use Rattle.hub_core.specs.declared.entry.RoomEntry.{RoomEntry}
 use Rattle.hub_core.specs.Endings.{ended_by, is_of, without_all}
 use Rattle.hub_core.specs.Hubs.{IsNeeded}
-use Rattle.hub_core.specs.Stood.{AreOrdered, Each, room_in, rooms_in, serial_of}
+use Rattle.hub_core.specs.RoomEntry.{AreOrdered, Each, room_in, rooms_in, serial_of}
 use Rattle.hub_core.proofs.DealtLaws.{AreNeeded, AreQuiet, all_of, any_stepped, disposed_put, given_stepped, kept_needed, left_needed, rooms_stepped}
 use Rattle.hub_core.proofs.EachLaws.{Each-first, Each-rest, Each-weaker}
 
 -- ---- needed rooms
 
-pub needed_others : {R : Type 0} (room : R → RoomValue) (n low : ℕ) (ss : List (Stood R)) → RisesFrom serial_of low ss → Each (λ s. (s.serial == n) ≡ false → IsNeeded room s) ss → AreNeeded room n ss
+pub needed_others : {R : Type 0} (room : R → RoomValue) (n low : ℕ) (ss : List (RoomEntry R)) → RisesFrom serial_of low ss → Each (λ s. (s.serial == n) ≡ false → IsNeeded room s) ss → AreNeeded room n ss
 needed_others room n low [] rises h = tt
 needed_others room n low (x ∷ ss) rises h =
     (Each-first (λ s. (s.serial == n) ≡ false → IsNeeded room s) x ss h, needed_others room n (suc x.serial) ss rises.1 (Each-rest (λ s. (s.serial == n) ≡ false → IsNeeded room s) low x ss rises h))
 
-pub needed_but : {R : Type 0} (room : R → RoomValue) (n low : ℕ) (ss : List (Stood R)) → RisesFrom serial_of low ss → Each (IsNeeded room) ss → AreNeeded room n ss
+pub needed_but : {R : Type 0} (room : R → RoomValue) (n low : ℕ) (ss : List (RoomEntry R)) → RisesFrom serial_of low ss → Each (IsNeeded room) ss → AreNeeded room n ss
 needed_but room n low ss rises h = needed_others room n low ss rises (Each-weaker (IsNeeded room) (λ s. (s.serial == n) ≡ false → IsNeeded room s) ss (λ s own other. own) h)
 
 abbrev pub disposed : HubRoom → HubOut
@@ -64,25 +64,25 @@ left_same p q same (c ∷ cs) = ap₂ (λ b l. cond (not b) (c ∷ l) l) (same c
 
 -- ---- behind the event
 
-module _ {R : Type 0} (room : R → RoomValue) (happens : RoomStep) (es : HubRoom → List RoomEvent) (ev : RoomEvent) (s : Stood R) (ss : List (Stood R)) (ordered : AreOrdered ss) (there : find_by serial_of s.serial ss ≡ Some s)
-    (quiet : AreQuiet room happens es s.serial ss) (own : es (room_in room s) ≡ ev ∷ []) where
+module _ {R : Type 0} (room : R → RoomValue) (handled : RoomStep) (es : HubRoom → List RoomEvent) (ev : RoomEvent) (s : RoomEntry R) (ss : List (RoomEntry R)) (ordered : AreOrdered ss) (there : find_by serial_of s.serial ss ≡ Some s)
+    (quiet : AreQuiet room handled es s.serial ss) (own : es (room_in room s) ≡ ev ∷ []) where
   abbrev outs : List RoomOut
-  outs = (happens (room s.room) ev).1
+  outs = (handled (room s.room) ev).1
 
-  pub rooms_behind : (t : Stood R) → t.serial ≡ s.serial → room_in room t ≡ with_room (room_in room s) (happens (room s.room) ev).0 → map (λ (d : Dealt). d.room) (all_of room happens es ss) ≡ rooms_in room (put serial_of t ss)
-  rooms_behind t same is = rooms_stepped room happens es s.serial 0 s t ev ss ordered.0 there quiet own same is
+  pub rooms_behind : (t : RoomEntry R) → t.serial ≡ s.serial → room_in room t ≡ with_room (room_in room s) (handled (room s.room) ev).0 → map (λ (d : Dealt). d.room) (all_of room handled es ss) ≡ rooms_in room (put serial_of t ss)
+  rooms_behind t same is = rooms_stepped room handled es s.serial 0 s t ev ss ordered.0 there quiet own same is
 
-  pub given_behind : {X : Type 0} (f : Dealt → List X) → ((r : HubRoom) → f (dealt happens r []) ≡ []) → flat_map f (all_of room happens es ss) ≡ f (dealt happens (room_in room s) (ev ∷ []))
-  given_behind f silent = given_stepped room happens es f s.serial 0 s ev ss silent ordered.0 there quiet own
+  pub given_behind : {X : Type 0} (f : Dealt → List X) → ((r : HubRoom) → f (dealt handled r []) ≡ []) → flat_map f (all_of room handled es ss) ≡ f (dealt handled (room_in room s) (ev ∷ []))
+  given_behind f silent = given_stepped room handled es f s.serial 0 s ev ss silent ordered.0 there quiet own
 
-  pub any_behind : (p : Dealt → Bool) → ((r : HubRoom) → p (dealt happens r []) ≡ false) → list_any p (all_of room happens es ss) ≡ p (dealt happens (room_in room s) (ev ∷ []))
-  any_behind p silent = any_stepped room happens es p s.serial s ev ss silent ordered.0 there quiet own
+  pub any_behind : (p : Dealt → Bool) → ((r : HubRoom) → p (dealt handled r []) ≡ false) → list_any p (all_of room handled es ss) ≡ p (dealt handled (room_in room s) (ev ∷ []))
+  any_behind p silent = any_stepped room handled es p s.serial s ev ss silent ordered.0 there quiet own
 
-  pub told_behind : (given : List ℕ → RoomOut → List HubOut) → flat_map (λ (d : Dealt). flat_map (given d.room.id) d.outs) (all_of room happens es ss) ≡ flat_map (given s.id) outs
+  pub told_behind : (given : List ℕ → RoomOut → List HubOut) → flat_map (λ (d : Dealt). flat_map (given d.room.id) d.outs) (all_of room handled es ss) ≡ flat_map (given s.id) outs
   told_behind given = given_behind (λ d. flat_map (given d.room.id) d.outs) (λ r. refl)
 
-  pub disposed_behind : (t : Stood R) → t.serial ≡ s.serial → room_in room t ≡ with_room (room_in room s) (happens (room s.room) ev).0 → AreNeeded room t.serial ss
-      → disposals (map (λ (d : Dealt). d.room) (all_of room happens es ss)) ≡ disposals (room_in room t ∷ [])
+  pub disposed_behind : (t : RoomEntry R) → t.serial ≡ s.serial → room_in room t ≡ with_room (room_in room s) (handled (room s.room) ev).0 → AreNeeded room t.serial ss
+      → disposals (map (λ (d : Dealt). d.room) (all_of room handled es ss)) ≡ disposals (room_in room t ∷ [])
   disposed_behind t same is needed =
       ap disposals (rooms_behind t same is)
       ∙ ap (map disposed) (disposed_put room 0 s t ss ordered.0 (subst (λ k. find_by serial_of k ss ≡ Some s) (sym same) there) needed)
@@ -92,16 +92,16 @@ module _ {R : Type 0} (room : R → RoomValue) (happens : RoomStep) (es : HubRoo
       one_disposed true = refl
       one_disposed false = refl
 
-  pub left_behind : (t : Stood R) → t.serial ≡ s.serial → room_in room t ≡ with_room (room_in room s) (happens (room s.room) ev).0 → AreNeeded room t.serial ss
-      → filter is_needed (map (λ (d : Dealt). d.room) (all_of room happens es ss)) ≡ rooms_in room (if is_needed (room_in room t) then put serial_of t ss else remove serial_of t.serial ss)
+  pub left_behind : (t : RoomEntry R) → t.serial ≡ s.serial → room_in room t ≡ with_room (room_in room s) (handled (room s.room) ev).0 → AreNeeded room t.serial ss
+      → filter is_needed (map (λ (d : Dealt). d.room) (all_of room handled es ss)) ≡ rooms_in room (if is_needed (room_in room t) then put serial_of t ss else remove serial_of t.serial ss)
   left_behind t same is needed = ap (filter is_needed) (rooms_behind t same is) ∙ by_need (is_needed (room_in room t)) refl
     where
       by_need : (b : Bool) → is_needed (room_in room t) ≡ b → filter is_needed (rooms_in room (put serial_of t ss)) ≡ rooms_in room (cond b (put serial_of t ss) (remove serial_of t.serial ss))
       by_need true own = kept_needed room 0 t ss ordered.0 needed own
       by_need false own = left_needed room 0 s t ss ordered.0 (subst (λ k. find_by serial_of k ss ≡ Some s) (sym same) there) needed own
 
-  pub conns_behind : (cs : List HubConn) → conns_left (all_of room happens es ss) cs ≡ without_all s.id (flat_map ended_by outs) cs
-  conns_behind cs = left_same (λ c. list_any (ends c) (all_of room happens es ss)) (is_of s.id (flat_map ended_by outs)) each cs
+  pub conns_behind : (cs : List HubConn) → conns_left (all_of room handled es ss) cs ≡ without_all s.id (flat_map ended_by outs) cs
+  conns_behind cs = left_same (λ c. list_any (ends c) (all_of room handled es ss)) (is_of s.id (flat_map ended_by outs)) each cs
     where
-      each : (c : HubConn) → list_any (ends c) (all_of room happens es ss) ≡ is_of s.id (flat_map ended_by outs) c
+      each : (c : HubConn) → list_any (ends c) (all_of room handled es ss) ≡ is_of s.id (flat_map ended_by outs) c
       each c = any_behind (ends c) (λ r. and_false (bytes_eq r.id c.room)) ∙ ap₂ (λ a b. a && b) (bytes_eq_sym s.id c.room) (ended_any c.session outs)

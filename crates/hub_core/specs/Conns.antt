@@ -1,5 +1,5 @@
 -- The connections of a hub, found by their numbers and by their sessions.
-use Rattle.std.specs.Prelude.{◌≡◌, ℕ, List, [], ◌∷◌, None}
+use Rattle.std.specs.Prelude.{◌≡◌, ℕ, List, [], ◌∷◌, IfSome, Option, Some, None}
 use Rattle.std.specs.Option.{option_map}
 use Rattle.std.specs.BTreeMap.{is_at}
 use Rattle.std.specs.Map.{lookup}
@@ -26,3 +26,7 @@ AreNumbers cs es = (room session : List ℕ) → lookup (is_at (by_both (room, s
 
 abbrev pub AreConns : List (ℕ × HubConn) → List ((List ℕ × List ℕ) × ℕ) → Type 0
 AreConns es numbers = IsKeyed conn_number es × RisesFrom conn_number 0 (entry_values es) × AreApart (entry_values es) × AreNumbers (entry_values es) numbers
+
+-- a connection is that of its room and session
+abbrev pub IsOwn : List HubConn → Option HubConn → Type 0
+IsOwn cs o = IfSome o (λ (c : HubConn). conn_for cs c.room c.session ≡ Some c)

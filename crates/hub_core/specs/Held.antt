@@ -8,7 +8,7 @@ use Rattle.room_model.specs.Definitions.{is_room_def}
 use Rattle.hub_model.specs.declared.event.HubEvent.{HubEvent}
 use Rattle.hub_model.specs.declared.event.HubEvent.TheVariants.{Ask, Opening, Act as Acted}
 use Rattle.hub_model.specs.HubValues.{HubValue}
-use Rattle.hub_model.specs.Ids.{is_id}
+use Rattle.schema_model.specs.Ids.{is_id}
 
 -- a hub's value, and whether memory was wanting
 pub record Held : Type 0 where

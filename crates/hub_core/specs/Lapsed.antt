@@ -10,12 +10,12 @@ use Rattle.hub_model.specs.declared.event.HubOut.{HubOut}
 use Rattle.hub_model.specs.Dealt.{Dealt, RoomStep, conns_left, dealt, told_out}
 use Rattle.hub_model.specs.HubStep.{disposals, event_if, is_needed}
 use Rattle.hub_core.specs.declared.parts.Parts.{Parts}
-use Rattle.hub_core.specs.declared.stood.Stood.{Stood}
+use Rattle.hub_core.specs.declared.entry.RoomEntry.{RoomEntry}
 use Rattle.hub_core.specs.Hubs.{InOrder, IsNeeded}
-use Rattle.hub_core.specs.Stood.{Each, room_in, rooms_in, serial_of}
+use Rattle.hub_core.specs.RoomEntry.{Each, room_in, rooms_in, serial_of}
 
 -- there are rooms of these numbers
-abbrev pub AreThere : {R : Type 0} → List ℕ → List (Stood R) → Type 0
+abbrev pub AreThere : {R : Type 0} → List ℕ → List (RoomEntry R) → Type 0
 AreThere due ss = (n : ℕ) → list_any (λ k. k == n) due ≡ true → IsSome (find_by serial_of n ss)
 
 -- the moment, for a room among those of these numbers
@@ -23,8 +23,8 @@ abbrev pub moment_of : ℕ → List ℕ → ℕ → List RoomEvent
 moment_of at due n = event_if (list_any (λ k. k == n) due) (event.Moment at)
 
 -- what the rooms make of it
-abbrev pub lapsed : {R : Type 0} → (R → RoomValue) → RoomStep → ℕ → List ℕ → List (Stood R) → List Dealt
-lapsed {R = R} room step at due ss = map (λ (s : Stood R). dealt step (room_in room s) (moment_of at due s.serial)) ss
+abbrev pub lapsed : {R : Type 0} → (R → RoomValue) → RoomStep → ℕ → List ℕ → List (RoomEntry R) → List Dealt
+lapsed {R = R} room step at due ss = map (λ (s : RoomEntry R). dealt step (room_in room s) (moment_of at due s.serial)) ss
 
 -- what they give
 abbrev pub told_of : List HubConn → List Dealt → List HubOut
@@ -33,7 +33,7 @@ told_of conns ds = flat_map (λ (d : Dealt). flat_map (told_out conns d.room.id)
 -- all of these rooms have had it; the others are needed as before
 pub record AllLapsed {R : Type 0} (room : R → RoomValue) (Holds : RoomValue → Type 0) (step : RoomStep) (at : ℕ) (due : List ℕ) (old new : Parts R) (before after : List HubOut) : Type 0 where
   pub rooms : rooms_in room new.registry.rooms ≡ map (λ (d : Dealt). d.room) (lapsed room step at due old.registry.rooms)
-  pub told : after ≡ before ++ told_of old.conns (lapsed room step at due old.registry.rooms)
+  pub outs : after ≡ before ++ told_of old.conns (lapsed room step at due old.registry.rooms)
   pub conns : new.conns ≡ conns_left (lapsed room step at due old.registry.rooms) old.conns
   pub order : InOrder room Holds new
   pub there : AreThere due new.registry.rooms
@@ -46,7 +46,7 @@ pub record AllLapsed {R : Type 0} (room : R → RoomValue) (Holds : RoomValue �
 -- only needed rooms are left
 pub record AllLeft {R : Type 0} (room : R → RoomValue) (Holds : RoomValue → Type 0) (old new : Parts R) (before after : List HubOut) : Type 0 where
   pub rooms : rooms_in room new.registry.rooms ≡ filter is_needed (rooms_in room old.registry.rooms)
-  pub told : after ≡ before ++ disposals (rooms_in room old.registry.rooms)
+  pub outs : after ≡ before ++ disposals (rooms_in room old.registry.rooms)
   pub order : InOrder room Holds new
   pub needed : Each (IsNeeded room) new.registry.rooms
   pub conns : new.conns ≡ old.conns

@@ -13,11 +13,11 @@ use Rattle.hub_model.specs.Dealt.{Dealt, RoomStep, dealt}
 use Rattle.hub_model.specs.HubStep.{created_out, disposals, event_in, room_made, seat_text}
 use Rattle.hub_model.specs.HubValues.{HubRoom, HubValue, def_of_room, is_named}
 use Rattle.hub_core.specs.declared.parts.Parts.{Parts}
-use Rattle.hub_core.specs.declared.stood.Stood.{Stood}
+use Rattle.hub_core.specs.declared.entry.RoomEntry.{RoomEntry}
 use Rattle.hub_core.specs.Hubs.{InOrder, Stands, hub_of}
 use Rattle.hub_core.specs.Lapsed.{told_of}
-use Rattle.hub_core.specs.Played.{with_dealt}
-use Rattle.hub_core.specs.Stood.{room_in, serial_of}
+use Rattle.hub_core.specs.Handled.{with_dealt}
+use Rattle.hub_core.specs.RoomEntry.{room_in, serial_of}
 
 -- the reservation of a session, for the room of an id
 abbrev pub reserved_for : HubValue → List ℕ → List ℕ → HubRoom → List RoomEvent
@@ -39,9 +39,9 @@ seated_in step h conn session id = (
       ++ (seat_out h conn session id (map (λ (d : Dealt). d.room) (reserved_to step h session id)) ∷ disposals (map (λ (d : Dealt). d.room) (reserved_to step h session id))),
 )
 
-pub record Seated {R : Type 0} (room : R → RoomValue) (Holds : RoomValue → Type 0) (step : RoomStep) (conn : ℕ) (session : List ℕ) (s : Stood R) (old new : Parts R) (before after : List HubOut) : Type 0 where
+pub record Seated {R : Type 0} (room : R → RoomValue) (Holds : RoomValue → Type 0) (step : RoomStep) (conn : ℕ) (session : List ℕ) (s : RoomEntry R) (old new : Parts R) (before after : List HubOut) : Type 0 where
   pub hub : hub_of room new ≡ (seated_in step (hub_of room old) conn session s.id).0
-  pub told : after ≡ before ++ (seated_in step (hub_of room old) conn session s.id).1
+  pub outs : after ≡ before ++ (seated_in step (hub_of room old) conn session s.id).1
   pub stands : Stands room Holds new
 
 -- the hub with one more room
@@ -50,12 +50,12 @@ with_made h r = record { now = h.now; schema = h.schema; process = h.process; de
 
 -- a room of a definition was made
 pub record Added {R : Type 0} (room : R → RoomValue) (Holds : RoomValue → Type 0) (def : RoomDef) (at : ℕ) (criteria : List (List ℕ)) (id : List ℕ) (serial : ℕ) (old new : Parts R) (before after : List HubOut) : Type 0 where
-  pub it : Stood R
+  pub it : RoomEntry R
   pub number : it.serial ≡ serial
   pub is : room_in room it ≡ room_made (hub_of room old) criteria id at def
   pub rooms : new.registry.rooms ≡ old.registry.rooms ++ it ∷ []
   pub above : IsAbove serial_of serial old.registry.rooms
-  pub told : after ≡ before ++ created_out (hub_of room old) (room_in room it) ∷ []
+  pub outs : after ≡ before ++ created_out (hub_of room old) (room_in room it) ∷ []
   pub order : InOrder room Holds new
   pub conns : new.conns ≡ old.conns
   pub moment : new.moment ≡ old.moment

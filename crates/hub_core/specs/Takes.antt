@@ -17,5 +17,5 @@ rules_of step = record { step = step; read = λ defs target body. read_request d
 -- its value, what it gives, and that it is in order
 pub record Takes {R : Type 0} (room : R → RoomValue) (Holds : RoomValue → Type 0) (step : RoomStep) (e : HubEvent) (old new : Parts R) (before after : List HubOut) : Type 0 where
   pub hub : hub_of room new ≡ (hub_step (rules_of step) (hub_of room old) e).0
-  pub told : after ≡ before ++ (hub_step (rules_of step) (hub_of room old) e).1
+  pub outs : after ≡ before ++ (hub_step (rules_of step) (hub_of room old) e).1
   pub stands : Stands room Holds new

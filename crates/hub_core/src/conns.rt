@@ -1,7 +1,8 @@
 //! The connections of a hub.
-ghost use Rattle.std.specs.Prelude.{◌≡◌, not, [], filter, None, option_copied, option_map, OnOk};
+ghost use Rattle.std.specs.Prelude.{◌≡◌, not, [], filter, None, option_map, OnOk};
 ghost use Rattle.lists.specs.Rising.{find as find_by, put};
 ghost use Rattle.hub_model.specs.HubValues.{conn_for, conn_number, is_conn_for};
+ghost use Rattle.hub_core.specs.Conns.{IsOwn};
 
 use hub_model::HubConn;
 use lists::Memory;
@@ -10,14 +11,13 @@ use std::alloc::Global;
 use std::collections::BTreeMap;
 use std::marker::Model;
 
-/// A connection, and the number that its room had when it was opened, where its room is looked for first: its lower half, so
-/// that many connections stand in a line of the cache.
+/// A connection, and the slot of its room, which is looked at first.
 #[derive(Drop)]
 pub struct Linked {
     pub conn: ConnNum,
     pub room: Id,
     pub session: Id,
-    pub near: u32,
+    pub slot: u32,
 }
 
 impl Model for Linked {
@@ -26,6 +26,20 @@ impl Model for Linked {
     ghost Value = { HubConn };
 
     ghost view = { λ l. record { conn = l.conn; room = l.room; session = l.session } };
+}
+
+impl Linked {
+    /// The same connection in the same slot.
+    pub fn copy(&self) -> Linked
+        ensures { result ≡ self.now }
+    {
+        Linked {
+            conn: self.conn,
+            room: self.room,
+            session: self.session,
+            slot: self.slot,
+        }
+    }
 }
 
 /// Connections with their rooms and sessions, rising by their numbers; no two are of one session. One is found by its number
@@ -61,10 +75,14 @@ impl Conns {
     }
 
     /// The connection of a number.
-    pub fn get(&self, conn: ConnNum) -> Option<&Linked>
-        ensures { option_copied result ≡ find_by conn_number conn self.now }
+    pub fn get(&self, conn: ConnNum) -> Option<Linked>
+        ensures value { result ≡ find_by conn_number conn self.now }
+        ensures own { IsOwn self.now result }
     {
-        self.by_number.get(&conn.0)
+        match self.by_number.get(&conn.0) {
+            Some(linked) => Some(linked.copy()),
+            None => None,
+        }
     }
 
     /// The number of the connection of a session of a room.
@@ -77,8 +95,8 @@ impl Conns {
         }
     }
 
-    /// Puts a new connection in its place, with the number of its room.
-    pub fn open(&mut self, conn: HubConn, near: u64) -> Result<(), Memory>
+    /// Puts a new connection in its place, with the slot of its room.
+    pub fn open(&mut self, conn: HubConn, slot: usize) -> Result<(), Memory>
         requires number { find_by conn_number conn.conn self.old ≡ None }
         requires session { conn_for self.old conn.room conn.session ≡ None }
         ensures { OnOk result (self.new ≡ put conn_number conn self.old) }
@@ -90,7 +108,7 @@ impl Conns {
             conn: conn.conn,
             room: conn.room,
             session: conn.session,
-            near: u32::try_from(near).unwrap_or(u32::MAX),
+            slot: u32::try_from(slot).unwrap_or(u32::MAX),
         };
         match self.by_number.insert(number, linked) {
             Ok(_) => Ok(()),

@@ -1,9 +1,10 @@
 //! The hub.
-ghost use Rattle.std.specs.Prelude.{◌≡◌, true, false, Some, is_some, option_map, slice_get, IfOk, IfSome, IsErr, IsTrue, OnErr, OnOk};
+ghost use Rattle.std.specs.Prelude.{◌≡◌, ◌+◌, ◌≤◌, true, false, Some, is_some, option_map, slice_get, IfOk, IfSome, IsErr, IsTrue, OnErr, OnOk};
 ghost use Rattle.hub_model.specs.HubStep.{hub_step};
 ghost use Rattle.hub_model.specs.HubValues.{new_hub, room_of};
-ghost use Rattle.hub_model.specs.Ids.{is_id};
+ghost use Rattle.schema_model.specs.Ids.{is_id};
 ghost use Rattle.hub_model.specs.Kinds.{event_has_kept_kind};
+ghost use Rattle.hub_core.specs.Costs.{hub_cost};
 ghost use Rattle.hub_core.specs.Held.{are_hub_defs, is_worded, may_take};
 ghost use Rattle.hub_core.specs.Hubs.{Stands, hub_of};
 ghost use Rattle.hub_core.specs.Takes.{Takes, rules_of};
@@ -11,16 +12,15 @@ ghost use Rattle.hub_core.specs.Takes.{Takes, rules_of};
 use crate::parts::Parts;
 use hub_model::{HubEvent, HubOuts};
 use lists::{Memory, Seq};
-use matchmaker::is_id;
 use room_like::{RoomLike, know_act};
 use room_model::Defs;
-use schema_model::{Id, Schema};
+use schema_model::{Id, Schema, is_id};
 use std::alloc::Global;
 use std::marker::Model;
 use std::sync::ledger::Ledger;
 use steps::Steps;
 
-/// A hub of rooms, with its connections and its moment. After it answered want of memory it answers it for good.
+/// A hub of rooms, with its connections and its moment. After it answered out of memory it answers it for good.
 #[derive(Drop)]
 pub struct Hub<R: RoomLike> {
     parts: Parts<R>,
@@ -29,6 +29,7 @@ pub struct Hub<R: RoomLike> {
 
 impl<R: RoomLike> Model for Hub<R> {
     ghost use Rattle.std.specs.Prelude.{◌≡◌, false};
+    ghost use Rattle.hub_core.specs.Costs.{hub_cost};
     ghost use Rattle.hub_core.specs.Held.{Held};
     ghost use Rattle.hub_core.specs.Hubs.{Stands, hub_of};
 
@@ -68,29 +69,56 @@ impl<R: RoomLike> Hub<R> {
     }
 
     /// The hub's step, and what it gives. Unless the hub is spent, it is an event that the hub takes; any event may come to a
-    /// spent one. Where it answers `Memory` the hub is spent.
+    /// spent one. Where it answers `Memory` the hub is spent. It takes no more steps than its rooms' steps are said to cost,
+    /// also where it answers `Memory`.
+    pub fn take<L: Ledger>(
+        &mut self,
+        event: HubEvent,
+        steps: &mut Steps<L>,
+    ) -> Result<HubOuts, Memory>
+        requires { self.old.spent ≡ false → IsTrue (may_take event) }
+        ensures outs { IfOk result (λ outs. outs ≡ (hub_step (rules_of R.handled) self.old.hub event).1) }
+        ensures after { OnOk result (self.new ≡ record { hub = (hub_step (rules_of R.handled) self.old.hub event).0; spent = false }) }
+        ensures spent { OnErr result (self.new.spent ≡ true) }
+        ensures for_good { self.old.spent ≡ true → IsErr result }
+        ensures cost { steps.new ≤ steps.old + hub_cost R.costs (rules_of R.handled) self.old.hub event }
+        ensures worded { IsTrue (is_worded event) }
+        ensures kind { IsTrue (event_has_kept_kind event) }
+    {
+        know_event(&event);
+        if self.spent {
+            return Err(Memory);
+        }
+        self.spent = true;
+        let mut outs = Seq::new(self.parts.alloc);
+        self.parts.handle(event, &mut outs, steps)?;
+        self.spent = false;
+        Ok(outs)
+    }
+
+    /// The same of an event that is kept: a copy of it is taken.
     pub fn step<L: Ledger>(
         &mut self,
         event: &HubEvent,
         steps: &mut Steps<L>,
     ) -> Result<HubOuts, Memory>
         requires { self.old.spent ≡ false → IsTrue (may_take event.now) }
-        ensures outs { IfOk result (λ outs. outs ≡ (hub_step (rules_of R.happens) self.old.hub event.now).1) }
-        ensures after { OnOk result (self.new ≡ record { hub = (hub_step (rules_of R.happens) self.old.hub event.now).0; spent = false }) }
+        ensures outs { IfOk result (λ outs. outs ≡ (hub_step (rules_of R.handled) self.old.hub event.now).1) }
+        ensures after { OnOk result (self.new ≡ record { hub = (hub_step (rules_of R.handled) self.old.hub event.now).0; spent = false }) }
         ensures spent { OnErr result (self.new.spent ≡ true) }
         ensures for_good { self.old.spent ≡ true → IsErr result }
+        ensures cost { steps.new ≤ steps.old + hub_cost R.costs (rules_of R.handled) self.old.hub event.now }
         ensures worded { IsTrue (is_worded event.now) }
         ensures kind { IsTrue (event_has_kept_kind event.now) }
     {
         know_event(event);
-        if self.spent {
-            return Err(Memory);
+        match event.copy(self.parts.alloc) {
+            Ok(event) => self.take(event, steps),
+            Err(Memory) => {
+                self.spent = true;
+                Err(Memory)
+            }
         }
-        self.spent = true;
-        let mut outs = Seq::new(self.parts.alloc);
-        self.parts.take(event, &mut outs, steps)?;
-        self.spent = false;
-        Ok(outs)
     }
 
     /// The room of an id.
@@ -99,7 +127,7 @@ impl<R: RoomLike> Hub<R> {
         ensures room { IfSome result (λ r. option_map (λ r. r.room) (room_of self.now.hub id) ≡ Some (R.room r.now)) }
     {
         match self.parts.registry.rooms.find(id) {
-            Some(stood) => Some(&stood.room),
+            Some(entry) => Some(&entry.room),
             None => None,
         }
     }
@@ -109,7 +137,7 @@ impl<R: RoomLike> Hub<R> {
         ensures { result ≡ option_map (λ r. r.id) (slice_get self.now.hub.rooms n) }
     {
         match self.parts.registry.rooms.nth(n) {
-            Some(stood) => Some(stood.id),
+            Some(entry) => Some(entry.id),
             None => None,
         }
     }
@@ -120,7 +148,7 @@ impl<R: RoomLike> Hub<R> {
         ensures room { IfSome result (λ r. option_map (λ r. r.room) (slice_get self.now.hub.rooms n) ≡ Some (R.room r.now)) }
     {
         match self.parts.registry.rooms.nth(n) {
-            Some(stood) => Some(&stood.room),
+            Some(entry) => Some(&entry.room),
             None => None,
         }
     }
@@ -135,18 +163,19 @@ impl<R: RoomLike> Hub<R> {
 
 impl<R: RoomLike> Parts<R> {
     // The step of the parts, for each event.
-    fn take<L: Ledger>(
+    fn handle<L: Ledger>(
         &mut self,
-        event: &HubEvent,
-        told: &mut HubOuts,
+        event: HubEvent,
+        outs: &mut HubOuts,
         steps: &mut Steps<L>,
     ) -> Result<(), Memory>
         requires stands { Stands R.room R.Holds self.old }
-        requires may { IsTrue (may_take event.now) }
-        ensures { OnOk result (Takes R.room R.Holds R.happens event.now self.old self.new told.old told.new) }
+        requires may { IsTrue (may_take event) }
+        ensures takes { OnOk result (Takes R.room R.Holds R.handled event self.old self.new outs.old outs.new) }
+        ensures cost { steps.new ≤ steps.old + hub_cost R.costs (rules_of R.handled) (hub_of R.room self.old) event }
     {
         match event {
-            HubEvent::At(now) => self.moment(*now, told, steps),
+            HubEvent::At(now) => self.moment(now, outs, steps),
             HubEvent::Ask {
                 conn,
                 target,
@@ -154,24 +183,24 @@ impl<R: RoomLike> Parts<R> {
                 room,
                 session,
             } => self.ask(
-                *conn,
+                conn,
                 target.as_str(),
                 body.as_slice(),
-                *room,
-                *session,
-                told,
+                room,
+                session,
+                outs,
                 steps,
             ),
-            HubEvent::Bad { conn } => self.bad(*conn, told),
+            HubEvent::Bad { conn } => self.bad(conn, outs),
             HubEvent::Opening {
                 conn,
                 target,
                 fresh,
-            } => self.opening(*conn, target.as_str(), *fresh, told, steps),
-            HubEvent::Frame { conn, bytes } => self.frame(*conn, bytes, told, steps),
-            HubEvent::Lost { conn } => self.lost(*conn, told, steps),
-            HubEvent::Act { room, act } => self.act(*room, act, told, steps),
-            HubEvent::Tick { room } => self.tick(*room, told, steps),
+            } => self.opening(conn, target.as_str(), fresh, outs, steps),
+            HubEvent::Frame { conn, bytes } => self.frame(conn, bytes, outs, steps),
+            HubEvent::Lost { conn } => self.lost(conn, outs, steps),
+            HubEvent::Act { room, act } => self.act(room, act, outs, steps),
+            HubEvent::Tick { room } => self.tick(room, outs, steps),
         }
     }
 }

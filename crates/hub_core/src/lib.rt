@@ -3,26 +3,28 @@
 
 mod asks;
 mod conns;
-mod copies;
 mod defs;
+mod entry;
 mod events;
-mod homes;
 mod hub;
 mod lapses;
-mod led;
-mod look;
 mod moments;
+mod open_rooms;
 mod openings;
+mod outcome;
 mod parts;
 mod refuse;
 mod registry;
 mod requests;
 mod rooms;
 mod seats;
-mod shelf;
-mod stood;
+mod session_rooms;
+mod slots;
+mod status;
 mod tell;
 
 pub use defs::{MOST_DEFS, are_hub_defs};
 pub use hub::Hub;
 pub use hub_model::{HubEvent, HubOut, HubOuts};
+pub use room_like::RoomLike;
+pub use room_model::{Act, Refusal, RoomEvent, RoomOut};

@@ -1,14 +1,16 @@
 //! The rooms of a hub.
-ghost use Rattle.std.specs.Prelude.{◌≡◌, ◌+◌, ◌≤◌, ◌++◌, ◌∷◌, ◌<◌, ◌^◌, [], None, length, option_copied, option_map, slice_get, IfOk, OnOk, IfSome, IsSome, IsTrue, Some, false};
+ghost use Rattle.std.specs.Prelude.{◌≡◌, ◌+◌, ◌≤◌, ◌++◌, ◌∷◌, [], None, Some, false, option_copied, slice_get, IfOk, IfSome, IsSome, IsTrue, OnOk};
 ghost use Rattle.std.specs.List.{find};
+ghost use Rattle.std.specs.Option.{option_map};
 ghost use Rattle.lists.specs.Rising.{IsAbove, find as find_by, remove};
 ghost use Rattle.room_laws.specs.Places.{may_happen};
-ghost use Rattle.hub_core.specs.Homes.{has_in};
-ghost use Rattle.hub_core.specs.Looks.{IsLook};
-ghost use Rattle.hub_core.specs.Stood.{AreOrdered, IsStepped, has_id, serial_of};
+ghost use Rattle.hub_core.specs.RoomEntry.{AreOrdered, IsStepped, has_id, ref_serial, serial_of};
+ghost use Rattle.hub_core.specs.SessionRooms.{has_in};
+ghost use Rattle.hub_core.specs.Statuses.{Changes};
 
-use crate::look::Turn;
-use crate::stood::{Boxed, Stood};
+use crate::entry::{Boxed, RoomEntry};
+use crate::slots::{RoomRef, Slots};
+use crate::status::{RoomStatus, Turn};
 use lists::Memory;
 use room_like::RoomLike;
 use room_model::{RoomEvent, Texts};
@@ -19,25 +21,25 @@ use std::marker::Model;
 use std::sync::ledger::Ledger;
 use steps::Steps;
 
-/// Rooms in the order of their creation. One is found by its id and by its number in logarithmic time.
+/// Rooms in the order of their creation. One is found by its id and by its number in logarithmic time, and at once where its
+/// slot is known.
 #[derive(Drop)]
 pub struct Rooms<R> {
-    by_serial: BTreeMap<u64, Boxed<R>>,
-    by_id: BTreeMap<[u8; 9], u64>,
+    slots: Slots<R>,
+    by_id: BTreeMap<[u8; 9], RoomRef>,
     next: u64,
 }
 
 impl<R> Model for Rooms<R> {
     ghost use Rattle.std.specs.Prelude.{List};
-    ghost use Rattle.trees.specs.Trees.{entry_values};
-    ghost use Rattle.hub_core.specs.declared.stood.Stood.{Stood};
-    ghost use Rattle.hub_core.specs.Stood.{AreRooms};
+    ghost use Rattle.hub_core.specs.declared.entry.RoomEntry.{RoomEntry};
+    ghost use Rattle.hub_core.specs.RoomEntry.{AreRooms};
 
-    ghost Value = { List (Stood R) };
+    ghost Value = { List (RoomEntry R) };
 
-    ghost view = { λ r. entry_values r.by_serial.entries };
+    ghost view = { λ r. r.slots };
 
-    ghost invariant = { λ r. AreRooms r.by_serial.entries r.by_id.entries r.next };
+    ghost invariant = { λ r. AreRooms r.slots r.by_id.entries r.next };
 }
 
 impl<R> Rooms<R> {
@@ -46,7 +48,7 @@ impl<R> Rooms<R> {
         ensures { result ≡ [] }
     {
         Rooms {
-            by_serial: BTreeMap::new(alloc),
+            slots: Slots::new(alloc),
             by_id: BTreeMap::new(alloc),
             next: 0,
         }
@@ -56,76 +58,65 @@ impl<R> Rooms<R> {
     pub fn know(&self)
         ensures { AreOrdered self.now }
     {
-        let _next = self.next;
+        self.slots.know();
     }
 
-    /// The number of the room of an id.
-    pub fn serial_of(&self, id: Id) -> Option<u64>
-        ensures value { result ≡ option_map serial_of (find (has_id id) self.now) }
-        ensures ordered { AreOrdered self.now }
+    /// The room of an id.
+    pub fn locate(&self, id: Id) -> Option<RoomRef>
+        ensures { option_map ref_serial result ≡ option_map serial_of (find (has_id id) self.now) }
     {
         self.by_id.get(&bytes_of(id)).copied()
     }
 
-    /// The number of the room of an id, which may be that of a number: the room of that number is looked at first.
-    pub fn serial_near(&self, near: Option<u64>, id: Id) -> Option<u64>
-        ensures value { result ≡ option_map serial_of (find (has_id id) self.now) }
-        ensures ordered { AreOrdered self.now }
+    /// The room of an id, which may stand in a slot: that is looked at first.
+    pub fn locate_in(&self, slot: usize, id: Id) -> Option<RoomRef>
+        ensures { option_map ref_serial result ≡ option_map serial_of (find (has_id id) self.now) }
     {
-        let Some(near) = near else {
-            return self.serial_of(id);
-        };
-        match self.own(near, id) {
-            Some(serial) => Some(serial),
-            None => self.serial_of(id),
+        match self.slots.in_slot(slot) {
+            Some(entry) if entry.id.0 == id.0 => Some(RoomRef {
+                serial: entry.serial,
+                slot,
+            }),
+            _ => self.locate(id),
         }
     }
 
-    // The number of the room of a number, where that room has an id.
-    fn own(&self, serial: u64, id: Id) -> Option<u64>
-        ensures value { IfSome result (λ n. Some n ≡ option_map serial_of (find (has_id id) self.now)) }
-        ensures ordered { AreOrdered self.now }
+    /// A number with the slot of its room, where there is one.
+    pub fn reference(&self, serial: u64) -> RoomRef
+        ensures { result.serial ≡ serial }
     {
-        match self.get(serial) {
-            Some(stood) if stood.id.0 == id.0 => Some(stood.serial),
-            _ => None,
-        }
+        self.slots.reference(serial)
     }
 
     /// The room of a number.
-    pub fn get(&self, serial: u64) -> Option<&Stood<R>>
-        ensures value { option_copied result ≡ find_by serial_of serial self.now }
+    pub fn get(&self, at: RoomRef) -> Option<&RoomEntry<R>>
+        ensures value { option_copied result ≡ find_by serial_of at.serial self.now }
         ensures ordered { AreOrdered self.now }
     {
-        match self.by_serial.get(&serial) {
-            Some(boxed) => Some(boxed.get()),
-            None => None,
-        }
+        self.know();
+        self.slots.get(at)
     }
 
     /// The room of an id.
-    pub fn find(&self, id: Id) -> Option<&Stood<R>>
+    pub fn find(&self, id: Id) -> Option<&RoomEntry<R>>
         ensures value { option_copied result ≡ find (has_id id) self.now }
         ensures ordered { AreOrdered self.now }
     {
-        let Some(serial) = self.serial_of(id) else {
+        self.know();
+        let Some(at) = self.locate(id) else {
             return None;
         };
-        self.get(serial)
+        self.get(at)
     }
 
     /// The room of a place. It passes over the rooms before it.
-    pub fn nth(&self, n: u32) -> Option<&Stood<R>>
+    pub fn nth(&self, n: u32) -> Option<&RoomEntry<R>>
         ensures { option_copied result ≡ slice_get self.now n }
     {
-        match self.by_serial.values().nth(n as usize) {
-            Some(boxed) => Some(boxed.get()),
-            None => None,
-        }
+        self.slots.nth(n)
     }
 
-    /// Adds a room behind all others, and gives its number. After 2^64 - 1 rooms there is no number left, which is answered
-    /// as want of memory.
+    /// Adds a room behind all others. After 2^64 - 1 rooms there is no number left, which is answered as out of memory.
     pub fn push(
         &mut self,
         alloc: Global,
@@ -133,12 +124,13 @@ impl<R> Rooms<R> {
         def: u32,
         criteria: Texts,
         room: R,
-    ) -> Result<u64, Memory>
+        status: RoomStatus,
+    ) -> Result<RoomRef, Memory>
     where
         R: Drop,
         requires new { find (has_id id) self.old ≡ None }
-        ensures above { IfOk result (λ serial. IsAbove serial_of serial self.old) }
-        ensures rooms { IfOk result (λ serial. self.new ≡ self.old ++ record { serial = serial; id = id; def = def; criteria = criteria; room = room } ∷ []) }
+        ensures above { IfOk result (λ at. IsAbove serial_of at.serial self.old) }
+        ensures rooms { IfOk result (λ at. self.new ≡ self.old ++ record { serial = at.serial; def = def; id = id; status = status; room = room; criteria = criteria } ∷ []) }
     {
         let serial = self.next;
         let Some(next) = serial.checked_add(1) else {
@@ -146,35 +138,37 @@ impl<R> Rooms<R> {
         };
         let boxed = Boxed::new(
             alloc,
-            Stood {
-                criteria,
+            RoomEntry {
                 serial,
                 def,
                 id,
+                status,
                 room,
+                criteria,
             },
         )?;
-        let key = bytes_of(id);
-        self.by_id.insert(key, serial)?;
-        match self.by_serial.insert(serial, boxed) {
+        let slot = self.slots.push(boxed)?;
+        let at = RoomRef { serial, slot };
+        match self.by_id.insert(bytes_of(id), at) {
             Ok(_) => {
                 self.next = next;
-                Ok(serial)
+                Ok(at)
             }
             Err(_) => {
-                self.by_id.remove(&key);
+                self.slots.remove(at);
                 Err(Memory)
             }
         }
     }
 
     /// Takes the room of a number out.
-    pub fn remove(&mut self, serial: u64)
+    pub fn remove(&mut self, at: RoomRef)
     where
         R: Drop,
-        ensures { self.new ≡ remove serial_of serial self.old }
+        ensures { self.new ≡ remove serial_of at.serial self.old }
     {
-        if let Some(boxed) = self.by_serial.remove(&serial) {
+        self.know();
+        if let Some(boxed) = self.slots.remove(at) {
             self.by_id.remove(&bytes_of(boxed.id()));
         }
     }
@@ -185,32 +179,29 @@ impl<R: RoomLike> Rooms<R> {
     pub fn has_session(&self, serial: u64, session: Id) -> bool
         ensures { result ≡ has_in R.room self.now serial session }
     {
-        match self.get(serial) {
-            Some(stood) => stood.room.has_session(session),
+        match self.get(self.reference(serial)) {
+            Some(entry) => entry.room.has_session(session),
             None => false,
         }
     }
 
-    /// The step of the room of a number, with how the room looked before and looks then.
+    /// The step of the room of a number.
     pub fn step<L: Ledger>(
         &mut self,
-        serial: u64,
+        at: RoomRef,
         event: &RoomEvent,
         steps: &mut Steps<L>,
     ) -> Result<Turn, Memory>
-        requires there { IsSome (find_by serial_of serial self.old) }
-        requires happen { IfSome (find_by serial_of serial self.old) (λ s. R.is_spent s.room ≡ false → IsTrue (may_happen (R.room s.room) event.now)) }
+        requires there { IsSome (find_by serial_of at.serial self.old) }
+        requires happen { IfSome (find_by serial_of at.serial self.old) (λ s. R.is_spent s.room ≡ false → IsTrue (may_happen (R.room s.room) event.now)) }
         ensures ordered { AreOrdered self.old }
-        ensures outs { IfOk result (λ turn. IfSome (find_by serial_of serial self.old) (λ s. turn.outs ≡ (R.happens (R.room s.room) event.now).1)) }
-        ensures after { OnOk result (IfSome (find_by serial_of serial self.old) (λ s. IsStepped R.room R.is_spent s self.old self.new (R.happens (R.room s.room) event.now).0)) }
-        ensures was { IfOk result (λ turn. IfSome (find_by serial_of serial self.old) (λ s. IsLook R.room s turn.was)) }
-        ensures now { IfOk result (λ turn. IfSome (find_by serial_of serial self.new) (λ t. IsLook R.room t turn.now)) }
-        ensures cost { IfSome (find_by serial_of serial self.old) (λ s. steps.new ≤ steps.old + R.costs s.room event.now) }
+        ensures outs { IfOk result (λ turn. IfSome (find_by serial_of at.serial self.old) (λ s. turn.outs ≡ (R.handled (R.room s.room) event.now).1)) }
+        ensures after { OnOk result (IfSome (find_by serial_of at.serial self.old) (λ s. IsStepped R.room R.is_spent s self.old self.new (R.handled (R.room s.room) event.now).0)) }
+        ensures change { IfOk result (λ turn. IfSome (find_by serial_of at.serial self.old) (λ s. IfSome (find_by serial_of at.serial self.new) (λ t. Changes R.room event.now turn.outs s t turn.change))) }
+        ensures cost { IfSome (find_by serial_of at.serial self.old) (λ s. steps.new ≤ steps.old + R.costs (R.room s.room) event.now) }
     {
-        let Some(boxed) = self.by_serial.get_mut(&serial) else {
-            return Err(Memory);
-        };
-        let turn = boxed.step(event, steps)?;
+        self.know();
+        let turn = self.slots.step(at, event, steps)?;
         Ok(turn)
     }
 }

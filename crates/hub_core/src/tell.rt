@@ -1,26 +1,37 @@
 //! What rooms give, as the hub gives it.
-ghost use Rattle.std.specs.Prelude.{◌≡◌, ◌++◌, IfOk, IsTrue, OnOk};
+ghost use Rattle.std.specs.Prelude.{◌≡◌, ◌++◌, IfOk, IfSome, IsTrue, OnOk};
 ghost use Rattle.std.specs.List.{flat_map};
-ghost use Rattle.std.specs.Option.{option_to_list};
+ghost use Rattle.std.specs.Option.{option_map, option_to_list};
 ghost use Rattle.hub_model.specs.Dealt.{opened_out, told_out};
-ghost use Rattle.hub_model.specs.Ids.{is_id};
+ghost use Rattle.schema_model.specs.Ids.{is_id};
+ghost use Rattle.hub_model.specs.HubValues.{conn_for, conn_number};
+ghost use Rattle.hub_core.specs.Conns.{IsOwn};
 ghost use Rattle.hub_core.specs.Endings.{ended_by, without_all};
 
-use crate::conns::Conns;
+use crate::conns::{Conns, Linked};
 use crate::refuse::{in_use_text, refuse_opening};
+use frame_model::codes::{EXPIRED, UNHANDLED};
 use hub_model::{HubOut, HubOuts};
 use lists::Memory;
 use room_model::{RoomOut, RoomOuts};
 use schema_model::{ConnNum, Id};
 use std::alloc::Global;
 
-/// What a room gives for an event.
-pub fn tell_all(conns: &Conns, room: Id, outs: RoomOuts, told: &mut HubOuts) -> Result<(), Memory>
-    ensures { OnOk result (told.new ≡ told.old ++ flat_map (told_out conns.now room) outs) }
+/// What a room gives for an event, which may have come from one of its connections.
+pub fn tell_all(
+    conns: &Conns,
+    room: Id,
+    from: Option<Linked>,
+    given: RoomOuts,
+    outs: &mut HubOuts,
+) -> Result<(), Memory>
+    requires own { IsOwn conns.now from }
+    requires room { IfSome from (λ c. c.room ≡ room) }
+    ensures { OnOk result (outs.new ≡ outs.old ++ flat_map (told_out conns.now room) given) }
 {
-    for out in outs.into_vec() {
-        if let Some(one) = tell(conns, room, out) {
-            told.push(one)?;
+    for out in given.into_vec() {
+        if let Some(one) = tell(conns, room, &from, out) {
+            outs.push(one)?;
         }
     }
     Ok(())
@@ -33,14 +44,14 @@ pub fn tell_opened(
     room: Id,
     conn: ConnNum,
     fresh: Id,
-    outs: RoomOuts,
-    told: &mut HubOuts,
+    given: RoomOuts,
+    outs: &mut HubOuts,
 ) -> Result<(), Memory>
     requires { IsTrue (is_id fresh) }
-    ensures { OnOk result (told.new ≡ told.old ++ flat_map (opened_out conn fresh conns.now room) outs) }
+    ensures { OnOk result (outs.new ≡ outs.old ++ flat_map (opened_out conn fresh conns.now room) given) }
 {
-    for out in outs.into_vec() {
-        tell_answer(alloc, conns, room, conn, fresh, out, told)?;
+    for out in given.into_vec() {
+        tell_answer(alloc, conns, room, conn, fresh, out, outs)?;
     }
     Ok(())
 }
@@ -53,34 +64,36 @@ fn tell_answer(
     conn: ConnNum,
     fresh: Id,
     out: RoomOut,
-    told: &mut HubOuts,
+    outs: &mut HubOuts,
 ) -> Result<(), Memory>
     requires { IsTrue (is_id fresh) }
-    ensures { OnOk result (told.new ≡ told.old ++ opened_out conn fresh conns.now room out) }
+    ensures { OnOk result (outs.new ≡ outs.old ++ opened_out conn fresh conns.now room out) }
 {
     match out {
-        RoomOut::NoSeat(_) => refuse_opening(alloc, conn, 4214, "seat expired", told),
+        RoomOut::NoSeat(_) => refuse_opening(alloc, conn, EXPIRED, "seat expired", outs),
         RoomOut::TokenInUse(_) => {
             let text = in_use_text(alloc, &fresh)?;
-            refuse_opening(alloc, conn, 4213, text.as_str(), told)
+            refuse_opening(alloc, conn, UNHANDLED, text.as_str(), outs)
         }
-        out => match tell(conns, room, out) {
-            Some(one) => told.push(one),
+        out => match tell(conns, room, &None, out) {
+            Some(one) => outs.push(one),
             None => Ok(()),
         },
     }
 }
 
 // An output, where it goes anywhere.
-fn tell(conns: &Conns, room: Id, out: RoomOut) -> Option<HubOut>
+fn tell(conns: &Conns, room: Id, from: &Option<Linked>, out: RoomOut) -> Option<HubOut>
+    requires own { IsOwn conns.now from.now }
+    requires room { IfSome from.now (λ c. c.room ≡ room) }
     ensures { option_to_list result ≡ told_out conns.now room out }
 {
     match out {
-        RoomOut::Send(session, bytes) => match conns.number_of(room, session) {
+        RoomOut::Send(session, bytes) => match number_of(conns, room, from, session) {
             Some(conn) => Some(HubOut::Send(conn, bytes)),
             None => None,
         },
-        RoomOut::Close(session, code) => match conns.number_of(room, session) {
+        RoomOut::Close(session, code) => match number_of(conns, room, from, session) {
             Some(conn) => Some(HubOut::Close(conn, code)),
             None => None,
         },
@@ -97,6 +110,18 @@ fn tell(conns: &Conns, room: Id, out: RoomOut) -> Option<HubOut>
         RoomOut::Left(session) => Some(HubOut::Left(room, session)),
         RoomOut::Made(number) => Some(HubOut::Made(room, number)),
         RoomOut::Refused(refusal) => Some(HubOut::Refused(refusal)),
+    }
+}
+
+// The number of the connection of a session: that from which the event came, where it is of the session.
+fn number_of(conns: &Conns, room: Id, from: &Option<Linked>, session: Id) -> Option<ConnNum>
+    requires own { IsOwn conns.now from.now }
+    requires room { IfSome from.now (λ c. c.room ≡ room) }
+    ensures { result ≡ option_map conn_number (conn_for conns.now room session) }
+{
+    match from {
+        Some(linked) if linked.session.0 == session.0 => Some(linked.conn),
+        _ => conns.number_of(room, session),
     }
 }
 

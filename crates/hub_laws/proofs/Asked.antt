@@ -23,9 +23,9 @@ use Rattle.hub_model.specs.declared.request.Decision.TheVariants as decision
 use Rattle.hub_model.specs.Decisions.{is_open}
 use Rattle.hub_model.specs.HubValues.{HubValue, HubRoom, is_named, room_of, listing_of, listings, knows, is_used}
 use Rattle.hub_model.specs.Dealt.{in_use_text}
-use Rattle.hub_model.specs.HubStep.{Rules, led, drawn, criteria_of, room_made, rooms_made, reserved_in, decided}
+use Rattle.hub_model.specs.HubStep.{Rules, outcome, drawn, criteria_of, room_made, rooms_made, reserved_in, decided}
 use Rattle.hub_laws.proofs.Different.{found_passes, found_in, here_or_behind, named_own, taken_in, passes_any, RoomsDiffer}
-use Rattle.hub_laws.proofs.Decided.{JoinsOpen, led_opens}
+use Rattle.hub_laws.proofs.Decided.{JoinsOpen, outcome_opens}
 
 -- ---- places
 
@@ -164,4 +164,4 @@ module _ (h : HubValue) (criteria : List (List ℕ)) (room session : List ℕ) (
 pub request_reserves : (rules : Rules) (h : HubValue) (conn : ℕ) (target body room session : List ℕ) → list_all is_room_def h.defs ≡ true → RoomsDiffer h.rooms
     → Reserves h (criteria_of (rules.read h.defs target body)) room session (decided rules h target body room session)
 request_reserves rules h conn target body room session forms differ =
-    reserves h (criteria_of (rules.read h.defs target body)) room session forms differ (led h (rules.read h.defs target body)) (led_opens h (rules.read h.defs target body))
+    reserves h (criteria_of (rules.read h.defs target body)) room session forms differ (outcome h (rules.read h.defs target body)) (outcome_opens h (rules.read h.defs target body))

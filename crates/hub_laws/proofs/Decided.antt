@@ -20,7 +20,7 @@ use Rattle.hub_model.specs.declared.request.Request.{Request}
 use Rattle.hub_model.specs.Decisions as decisions
 use Rattle.hub_model.specs.Decisions.{is_open, meets, joined_or, joined_at, kept_at, in_def, room_at, texts_eq, room_is_locked}
 use Rattle.hub_model.specs.HubValues.{HubValue, listings}
-use Rattle.hub_model.specs.HubStep.{led, kept_session}
+use Rattle.hub_model.specs.HubStep.{outcome, kept_session}
 use Rattle.hub_laws.proofs.Different.{found_passes}
 
 -- the item of a position passes
@@ -87,9 +87,9 @@ decided_opens method.JoinById defs rooms q kept = joined_opens rooms q.name (roo
 decided_opens method.Reconnect defs rooms q kept = kept_opens rooms q.name kept (room_at rooms q.name)
 decided_opens m defs rooms q kept = def_opens rooms q q.method (position (λ (d : RoomDef). bytes_eq d.name q.name) defs)
 
-pub led_opens : (h : HubValue) (x : Result Request AskFault) → JoinsOpen (listings h) (led h x)
-led_opens h (Ok q) at is = decided_opens q.method h.defs (listings h) q (kept_session h q) at is
-led_opens h (Err NoMethod) at is = cc
-led_opens h (Err BadPayload) at is = cc
-led_opens h (Err NoHandler) at is = cc
-led_opens h (Err Memory) at is = cc
+pub outcome_opens : (h : HubValue) (x : Result Request AskFault) → JoinsOpen (listings h) (outcome h x)
+outcome_opens h (Ok q) at is = decided_opens q.method h.defs (listings h) q (kept_session h q) at is
+outcome_opens h (Err NoMethod) at is = cc
+outcome_opens h (Err BadPayload) at is = cc
+outcome_opens h (Err NoHandler) at is = cc
+outcome_opens h (Err Memory) at is = cc

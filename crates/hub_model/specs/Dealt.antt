@@ -3,6 +3,7 @@ use Rattle.std.specs.Prelude.{ℕ, Bool, List, [], ◌∷◌, ◌++◌, pos, Opt
 use Rattle.std.specs.List.{list_any}
 use Rattle.std.specs.Str.{bytes_eq}
 use Rattle.frame_model.specs.Frames.{server_bytes}
+use Rattle.frame_model.specs.declared.codes.TheConstants.{EXPIRED, UNHANDLED, WITH_ERROR}
 use Rattle.frame_model.specs.declared.frame.ServerFrame.TheVariants as server
 use Rattle.room_model.specs.declared.event.RoomEvent.{RoomEvent}
 use Rattle.room_model.specs.declared.event.RoomOut.{RoomOut}
@@ -61,12 +62,12 @@ in_use_text id = codes "id " ++ (id ++ codes " is in use")
 
 -- an opening that is refused: what is wrong, and the closing
 abbrev pub refused_opening : ℕ → ℕ → List ℕ → List HubOut
-refused_opening conn code text = out.Send conn (server_bytes (server.Fault (pos code) text)) ∷ out.Close conn 4002 ∷ []
+refused_opening conn code text = out.Send conn (server_bytes (server.Fault (pos code) text)) ∷ out.Close conn WITH_ERROR ∷ []
 
 -- what a room gives for the opening of a connection with a fresh token
 abbrev pub opened_out : ℕ → List ℕ → List HubConn → List ℕ → RoomOut → List HubOut
-opened_out conn fresh conns room (room_out.NoSeat s) = refused_opening conn 4214 (codes "seat expired")
-opened_out conn fresh conns room (room_out.TokenInUse s) = refused_opening conn 4213 (in_use_text fresh)
+opened_out conn fresh conns room (room_out.NoSeat s) = refused_opening conn EXPIRED (codes "seat expired")
+opened_out conn fresh conns room (room_out.TokenInUse s) = refused_opening conn UNHANDLED (in_use_text fresh)
 opened_out conn fresh conns room o = told_out conns room o
 
 -- ---- connections that end

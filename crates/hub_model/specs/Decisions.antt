@@ -3,6 +3,7 @@ use Rattle.std.specs.Prelude.{ℕ, Bool, true, false, ◌&&◌, ◌==◌, not, L
 use Rattle.std.specs.List.{position}
 use Rattle.std.specs.Option.{option_map_or}
 use Rattle.std.specs.Str.{bytes_eq}
+use Rattle.frame_model.specs.declared.codes.TheConstants.{EXPIRED, INVALID_CRITERIA, INVALID_ROOM, NO_HANDLER}
 use Rattle.room_model.specs.declared.definition.RoomDef.{RoomDef}
 use Rattle.hub_model.specs.declared.request.Decision.{Decision}
 use Rattle.hub_model.specs.declared.request.Decision.TheVariants as decision
@@ -30,10 +31,10 @@ meets def criteria r = is_open r && ((r.def == def) && texts_eq r.criteria crite
 -- ---- refusals
 
 abbrev pub room_not_found : List ℕ → Decision
-room_not_found name = decision.Refuse 4212 (codes "room " ++ (name ++ codes " not found"))
+room_not_found name = decision.Refuse INVALID_ROOM (codes "room " ++ (name ++ codes " not found"))
 
 abbrev pub room_is_locked : List ℕ → Decision
-room_is_locked name = decision.Refuse 4212 (codes "room " ++ (name ++ codes " is locked"))
+room_is_locked name = decision.Refuse INVALID_ROOM (codes "room " ++ (name ++ codes " is locked"))
 
 -- ---- by a definition
 
@@ -47,12 +48,12 @@ oldest_or other rooms q def = joined_or other (position (meets def q.criteria) r
 
 abbrev pub in_def : Method → List Listing → Request → ℕ → Decision
 in_def JoinOrCreate rooms q def = oldest_or (decision.Make def) rooms q def
-in_def Join rooms q def = oldest_or (decision.Refuse 4211 (codes "no room meets the criteria")) rooms q def
+in_def Join rooms q def = oldest_or (decision.Refuse INVALID_CRITERIA (codes "no room meets the criteria")) rooms q def
 in_def m rooms q def = decision.Make def
 
 abbrev pub by_def : List RoomDef → List Listing → Request → Decision
 by_def defs rooms q =
-    option_map_or (in_def q.method rooms q) (position (λ (d : RoomDef). bytes_eq d.name q.name) defs) (decision.Refuse 4210 (codes "no handler"))
+    option_map_or (in_def q.method rooms q) (position (λ (d : RoomDef). bytes_eq d.name q.name) defs) (decision.Refuse NO_HANDLER (codes "no handler"))
 
 -- ---- by the id of a room
 
@@ -67,7 +68,7 @@ joined_at rooms name (Some at) = if option_map_or is_open (slice_get rooms at) f
 
 abbrev pub kept_at : List ℕ → Option (List ℕ) → Option ℕ → Decision
 kept_at name kept None = room_not_found name
-kept_at name None (Some at) = decision.Refuse 4214 (codes "seat expired")
+kept_at name None (Some at) = decision.Refuse EXPIRED (codes "seat expired")
 kept_at name (Some session) (Some at) = decision.Return at session
 
 -- ---- what a request leads to, where this session's seat is kept under its token in the room that it names

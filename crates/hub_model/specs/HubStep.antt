@@ -5,6 +5,7 @@ use Rattle.std.specs.List.{flat_map, find, list_any}
 use Rattle.std.specs.Option.{option_map, option_map_or}
 use Rattle.std.specs.Str.{bytes_eq}
 use Rattle.lists.specs.Rising.{put}
+use Rattle.frame_model.specs.declared.codes.TheConstants.{INVALID_PAYLOAD, INVALID_ROOM, NO_HANDLER, PROTOCOL_ERROR, UNHANDLED}
 use Rattle.room_model.specs.declared.definition.RoomDef.{RoomDef}
 use Rattle.room_model.specs.declared.event.RoomEvent.{RoomEvent}
 use Rattle.room_model.specs.declared.event.RoomEvent.TheVariants as event
@@ -39,23 +40,23 @@ pub record Rules : Type 0 where
 
 -- a request that is none is refused; reading it lacks no memory
 abbrev pub fault_of : AskFault → Decision
-fault_of NoMethod = decision.Refuse 4210 (codes "no method")
-fault_of BadPayload = decision.Refuse 4217 (codes "invalid payload")
-fault_of NoHandler = decision.Refuse 4210 (codes "no handler")
-fault_of Memory = decision.Refuse 4217 (codes "invalid payload")
+fault_of NoMethod = decision.Refuse NO_HANDLER (codes "no method")
+fault_of BadPayload = decision.Refuse INVALID_PAYLOAD (codes "invalid payload")
+fault_of NoHandler = decision.Refuse NO_HANDLER (codes "no handler")
+fault_of Memory = decision.Refuse INVALID_PAYLOAD (codes "invalid payload")
 
 -- the session whose seat is kept under a request's token in the room that it names
 abbrev pub kept_session : HubValue → Request → Option (List ℕ)
 kept_session h q = option_and_then (λ token. option_and_then (λ (r : HubRoom). kept_by r.room.seats token) (room_of h q.name)) q.token
 
 -- what it leads to, before the drawn ids are looked at
-abbrev pub led : HubValue → Result Request AskFault → Decision
-led h (Ok q) = decide h.defs (listings h) q (kept_session h q)
-led h (Err f) = fault_of f
+abbrev pub outcome : HubValue → Result Request AskFault → Decision
+outcome h (Ok q) = decide h.defs (listings h) q (kept_session h q)
+outcome h (Err f) = fault_of f
 
 -- an id that was drawn and is used already is refused
 abbrev pub unless_used : HubValue → List ℕ → Decision → Decision
-unless_used h id d = if is_used h id then decision.Refuse 4213 (in_use_text id) else d
+unless_used h id d = if is_used h id then decision.Refuse UNHANDLED (in_use_text id) else d
 
 -- a new room uses both ids, the room's first; a seat in another room uses the session's
 abbrev pub drawn : HubValue → List ℕ → List ℕ → Decision → Decision
@@ -64,7 +65,7 @@ drawn h room session (decision.Join at) = unless_used h session (decision.Join a
 drawn h room session d = d
 
 abbrev pub decided : Rules → HubValue → List ℕ → List ℕ → List ℕ → List ℕ → Decision
-decided rules h target body room session = drawn h room session (led h (rules.read h.defs target body))
+decided rules h target body room session = drawn h room session (outcome h (rules.read h.defs target body))
 
 abbrev pub criteria_of : Result Request AskFault → List (List ℕ)
 criteria_of (Ok q) = q.criteria
@@ -120,7 +121,7 @@ abbrev pub opening_refused : HubValue → ℕ → List ℕ → List HubOut
 opening_refused h conn target =
     if is_some (conn_of h conn) then out.Refused refusal.ConnInUse ∷ []
     else if is_some (opening_of h target) then []
-    else refused_opening conn 4212 (codes "no such room")
+    else refused_opening conn INVALID_ROOM (codes "no such room")
 
 -- a room lets the session in
 abbrev pub enters : Opens → Dealt → Bool
@@ -195,7 +196,7 @@ unknown_room h room = if is_some (room_of h room) then [] else out.Refused refus
 abbrev pub first_outs : Rules → HubValue → HubEvent → List HubOut
 first_outs rules h (At now) = []
 first_outs rules h (Ask conn target body room session) = map (created_out h) (makes rules h (Ask conn target body room session))
-first_outs rules h (Bad conn) = out.Close conn 1002 ∷ []
+first_outs rules h (Bad conn) = out.Close conn PROTOCOL_ERROR ∷ []
 first_outs rules h (Opening conn target fresh) = opening_refused h conn target
 first_outs rules h (Frame conn bytes) = unknown_conn h conn
 first_outs rules h (Lost conn) = unknown_conn h conn

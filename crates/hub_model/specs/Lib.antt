@@ -1,5 +1,4 @@
 pub mod Replies
-pub mod Ids
 pub mod Requests
 pub mod Decisions
 pub mod Openings

@@ -3,13 +3,13 @@ use Rattle.std.specs.Prelude.{ℕ, ◌==◌, List, [], ◌∷◌, Option, Some, 
 use Rattle.std.specs.List.{find}
 use Rattle.std.specs.Option.{option_map}
 use Rattle.std.specs.Str.{bytes_eq}
-use Rattle.hub_model.specs.Ids.{is_id}
-use Rattle.hub_model.specs.Requests.{behind_front, up_to}
+use Rattle.schema_model.specs.Ids.{is_id}
+use Rattle.hub_model.specs.Requests.{after_prefix, up_to}
 use Rattle.hub_model.specs.declared.request.Opening.{Opening}
 
 -- ---- a query
 
--- a byte in front of the first piece
+-- a byte before the first piece
 abbrev pub grown : ℕ → List (List ℕ) → List (List ℕ)
 grown x [] = (x ∷ []) ∷ []
 grown x (p ∷ ps) = (x ∷ p) ∷ ps
@@ -30,7 +30,7 @@ value_of key ps = option_map (behind 61) (find (λ p. bytes_eq (up_to 61 p) key)
 
 -- ---- a target
 
--- an id in front of a text, and what is behind it
+-- an id before a text, and what is behind it
 abbrev pub id_first : List ℕ → Option (List ℕ × List ℕ)
 id_first t = if is_id (take 9 t) then Some (take 9 t, drop 9 t) else None
 
@@ -46,11 +46,11 @@ with_query process room ps =
     option_and_then (λ session. if is_id session then with_session process room (value_of (codes "reconnectionToken") ps) session else None) (value_of (codes "sessionId") ps)
 
 abbrev pub with_room : List ℕ → List ℕ × List ℕ → Option Opening
-with_room process room = option_and_then (λ query. with_query process room.0 (pieces 38 query)) (behind_front (codes "?") room.1)
+with_room process room = option_and_then (λ query. with_query process room.0 (pieces 38 query)) (after_prefix (codes "?") room.1)
 
 abbrev pub with_process : List ℕ × List ℕ → Option Opening
-with_process process = option_and_then (with_room process.0) (option_and_then id_first (behind_front (codes "/") process.1))
+with_process process = option_and_then (with_room process.0) (option_and_then id_first (after_prefix (codes "/") process.1))
 
 -- what a target opens: it is '/PROCESS/ROOM?QUERY'
 abbrev pub read_target : List ℕ → Option Opening
-read_target target = option_and_then with_process (option_and_then id_first (behind_front (codes "/") target))
+read_target target = option_and_then with_process (option_and_then id_first (after_prefix (codes "/") target))

@@ -13,11 +13,11 @@ use Rattle.hub_model.specs.declared.request.AskFault.TheVariants.{NoMethod, BadP
 
 -- ---- texts
 
--- what is behind a front, where a text begins with it
-abbrev pub behind_front : List ℕ → List ℕ → Option (List ℕ)
-behind_front [] t = Some t
-behind_front (x ∷ xs) [] = None
-behind_front (x ∷ xs) (y ∷ ys) = if x == y then behind_front xs ys else None
+-- what is behind a prefix, where a text begins with it
+abbrev pub after_prefix : List ℕ → List ℕ → Option (List ℕ)
+after_prefix [] t = Some t
+after_prefix (x ∷ xs) [] = None
+after_prefix (x ∷ xs) (y ∷ ys) = if x == y then after_prefix xs ys else None
 
 -- a text up to the first byte that is this one
 abbrev pub up_to : ℕ → List ℕ → List ℕ
@@ -47,7 +47,7 @@ name_of raw =
 
 -- what a target asks for by a method: it is '/matchmake/METHOD/NAME', with any query
 abbrev pub named_by : Method → List ℕ → Option (List ℕ)
-named_by m target = option_map_or name_of (behind_front (codes "/matchmake/" ++ (method_word m ++ codes "/")) (up_to 63 target)) None
+named_by m target = option_map_or name_of (after_prefix (codes "/matchmake/" ++ (method_word m ++ codes "/")) (up_to 63 target)) None
 
 -- and by whichever
 abbrev pub first_asked : List Method → List ℕ → Option Asked

@@ -1,7 +1,10 @@
+ghost use Rattle.std.specs.Prelude.{◌≡◌, IfOk};
+
 use frame_model::MsgKind;
-use lists::{Seq, Text};
+use lists::{Memory, Seq, Text};
 use room_model::{Act, Refusal};
 use schema_model::{Bytes, ConnNum, Id, RefNum};
+use std::alloc::Global;
 
 /// What happens to a hub.
 #[derive(Debug, Drop)]
@@ -45,6 +48,50 @@ pub enum HubEvent {
 }
 
 pub type Events = Seq<HubEvent>;
+
+impl HubEvent {
+    /// The same event again.
+    pub fn copy(&self, alloc: Global) -> Result<HubEvent, Memory>
+        ensures { IfOk result (λ e. e ≡ self.now) }
+    {
+        Ok(match self {
+            HubEvent::At(now) => HubEvent::At(*now),
+            HubEvent::Ask {
+                conn,
+                target,
+                body,
+                room,
+                session,
+            } => HubEvent::Ask {
+                conn: *conn,
+                target: target.copy(alloc)?,
+                body: body.copy(alloc)?,
+                room: *room,
+                session: *session,
+            },
+            HubEvent::Bad { conn } => HubEvent::Bad { conn: *conn },
+            HubEvent::Opening {
+                conn,
+                target,
+                fresh,
+            } => HubEvent::Opening {
+                conn: *conn,
+                target: target.copy(alloc)?,
+                fresh: *fresh,
+            },
+            HubEvent::Frame { conn, bytes } => HubEvent::Frame {
+                conn: *conn,
+                bytes: bytes.copy(alloc)?,
+            },
+            HubEvent::Lost { conn } => HubEvent::Lost { conn: *conn },
+            HubEvent::Act { room, act } => HubEvent::Act {
+                room: *room,
+                act: act.copy(alloc)?,
+            },
+            HubEvent::Tick { room } => HubEvent::Tick { room: *room },
+        })
+    }
+}
 
 /// What a hub gives.
 #[derive(Debug, Drop)]

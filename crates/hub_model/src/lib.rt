@@ -3,7 +3,7 @@
 
 pub mod conn;
 pub mod event;
-pub mod moment;
+mod moment;
 pub mod request;
 
 pub use conn::HubConn;

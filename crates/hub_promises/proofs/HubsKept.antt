@@ -127,6 +127,6 @@ hubs_follow read schema process defs events can kinds n =
     (runs_follow read schema (record { hub = new_hub schema process defs; lives = [] }) (take n events) can.schema_kept first.come (first_all event_has_kept_kind n events kinds) (new_good schema process defs can.forms) (All-nil _))
 
 pub hubs_give_equal_bytes : HubsGiveEqualBytes
-hubs_give_equal_bytes read readen schema process other defs others events happened can may k l there here same =
+hubs_give_equal_bytes read read_other schema process other defs others events happened can may k l there here same =
     (good_keeps schema (hub_run (rules_of read) (new_hub schema process defs) events) (run_good read schema process defs events can)).equal k there
-    ∙ (ap (sent schema) same ∙ sym ((good_keeps schema (hub_run (rules_of readen) (new_hub schema other others) happened) (run_good readen schema other others happened may)).equal l here))
+    ∙ (ap (sent schema) same ∙ sym ((good_keeps schema (hub_run (rules_of read_other) (new_hub schema other others) happened) (run_good read_other schema other others happened may)).equal l here))

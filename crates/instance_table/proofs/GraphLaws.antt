@@ -18,7 +18,7 @@ HasRoom es loose room = AreListed es loose × (length es ≤ room)
 fits_at : (k : ℕ) (f : Node → Node) (es : List (ℕ × Node)) (room : ℕ) → length es ≤ room → length (at_node k f es) ≤ room
 fits_at k f es room h = omega (arith, length-at_node k f es)
 
--- an edit that leaves each node waiting or not, or none for want of memory
+-- an edit that leaves each node waiting or not, or none for out of memory
 pub room_same : (b : Bool) (k : ℕ) (f : Node → Node) (es new : List (ℕ × Node)) (loose : List ℕ) (room : ℕ) → ((n : Node) → (f n).waits ≡ n.waits) → new ≡ cond b (at_node k f es) es
     → RisesFrom number_of 0 es → HasRoom es loose room → HasRoom new loose room
 room_same true k f es new loose room same e r l =

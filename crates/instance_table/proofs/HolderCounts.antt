@@ -17,7 +17,7 @@ one_is : (b : Bool) → one_if b ≡ cond b 1 0
 one_is true = refl
 one_is false = refl
 
--- with one more in front
+-- with one more before it
 pub count_first : (k n : ℕ) (ns : List ℕ) → count_of k (n ∷ ns) ≡ one_if (n == k) + count_of k ns
 count_first k n ns = counts.count_first k n ns ∙ ap (λ x. x + count_of k ns) (sym (one_is (n == k)))
 

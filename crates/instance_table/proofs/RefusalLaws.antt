@@ -15,18 +15,18 @@ use Rattle.schema_model.specs.declared.value.Value.TheVariants as value
 use Rattle.state_model.specs.declared.row.Row.{Row}
 use Rattle.state_model.specs.declared.row.Row.TheVariants as row
 use Rattle.state_model.specs.declared.row.RowEntry.{RowEntry}
-use Rattle.state_model.specs.declared.place.Wanted.TheVariants.{Item as AnItem}
+use Rattle.state_model.specs.declared.place.Expected.TheVariants.{Item as AnItem}
 use Rattle.state_model.specs.declared.command.Command.{Command}
 use Rattle.state_model.specs.declared.command.Command.TheVariants as command
 use Rattle.state_model.specs.declared.command.TableFault.{TableFault}
 use Rattle.state_model.specs.declared.command.TableFault.TheVariants as fault
-use Rattle.state_model.specs.Places.{is_filtered, item_wants, instance_class, holds_instances, home_tag}
+use Rattle.state_model.specs.Places.{is_filtered, item_expects, instance_class, holds_instances, home_tag}
 use Rattle.state_model.specs.Reached.{is_among}
 use Rattle.state_model.specs.Rows.{is_live, row_at, held_in, place_count, text_bytes_of}
 use Rattle.state_model.specs.State.{State, next_item, rows_limit, places_limit, text_limit, last_number}
 use Rattle.state_model.specs.Sound.{are_sound, differ, fits_place}
 use Rattle.state_model.specs.Values.{held_by, is_link, same_value}
-use Rattle.state_model.specs.Commands.{adds_place, causes_over, first_cause, gives_number, holder_of, is_duplicate, is_long_key, is_long_text, is_no_field, is_no_item, is_no_ref, is_past_range, is_present, is_wrong_type, makes_row, refusal_of, row_for, state_after, value_put, wanted_for, with_change, with_new, made_row}
+use Rattle.state_model.specs.Commands.{adds_place, causes_over, first_cause, gives_number, holder_of, is_duplicate, is_long_key, is_long_text, is_no_field, is_no_item, is_no_ref, is_past_range, is_present, is_wrong_type, makes_row, refusal_of, row_for, state_after, value_put, expected_for, with_change, with_new, made_row}
 use Rattle.state_laws.proofs.Numbers.{live_row}
 use Rattle.command_laws.specs.Accounts.{count_of}
 use Rattle.command_laws.proofs.ListEdits.{list_all_removed}
@@ -173,7 +173,7 @@ link_elsewhere n (v ∷ vs) (suc at) d =
     elsewhere_on (p v) (list_any p (remove vs at)) (option_map_or p (slice_get vs at) false) (list_any p vs) (link_elsewhere n vs at rest) (link_once n v vs d) (none_at p vs at)
 
 -- the items of a filtered array are instances
-filtered_class : (schema : Schema) (home : Home) → is_filtered schema home ≡ true → (c : ℕ) × (item_wants schema home ≡ Some (AnItem (item.Class c)))
+filtered_class : (schema : Schema) (home : Home) → is_filtered schema home ≡ true → (c : ℕ) × (item_expects schema home ≡ Some (AnItem (item.Class c)))
 filtered_class schema home h = by_field (home_field schema home) (and_parts (is_some (home_tag schema home)) (holds_instances schema home) h).1
   where
     by_item : (i : Item) → is_some (instance_class i) ≡ true → (c : ℕ) × (i ≡ item.Class c)
@@ -216,7 +216,7 @@ pub filtered_values : (schema : Schema) (rows : List RowEntry) (holder : ℕ) (h
     → (differ values ≡ true) × (list_all is_link values ≡ true)
 filtered_values schema rows holder home values sound there filtered =
     let fits = (sound_row schema rows sound holder (row.Array home values) there).fits in
-    let two = and_parts (not (is_filtered schema home) || differ values) (list_all (λ v. fits_place schema rows v (item_wants schema home)) values) fits in
+    let two = and_parts (not (is_filtered schema home) || differ values) (list_all (λ v. fits_place schema rows v (item_expects schema home)) values) fits in
     let class = filtered_class schema home filtered in
     let links = ap (λ o. list_all (λ v. fits_place schema rows v o) values) (sym class.1) ∙ two.1 in
     (ap (λ b. not b || differ values) (sym filtered) ∙ two.0, all_links schema rows class.0 values links)
@@ -400,7 +400,7 @@ limit_refused schema es given places text holder c b table h told found no_value
     field = ap (is_no_field schema c) (sym h.over) ∙ h.field
 
     item_there : is_no_item c (Some r) ≡ false
-    item_there = first_fails (is_no_item c (Some r)) fault.NoItem ((is_wrong_type schema s.rows (value_put c) (wanted_for schema c (Some r)), fault.WrongType) ∷ (is_past_range (value_put c) (wanted_for schema c (Some r)), fault.OutOfRange) ∷ []) no_value
+    item_there = first_fails (is_no_item c (Some r)) fault.NoItem ((is_wrong_type schema s.rows (value_put c) (expected_for schema c (Some r)), fault.WrongType) ∷ (is_past_range (value_put c) (expected_for schema c (Some r)), fault.OutOfRange) ∷ []) no_value
 
     full : nat_lt text_limit (text_bytes_of (state_after schema s c).rows) ≡ is_text_full c r text
     full = text_full_is schema s c holder r text table.kept names stands field item_there table.texts table.text_few

@@ -120,11 +120,11 @@ rows_removed k (e ∷ es) =
 -- ---- rows that are copied one by one
 
 -- what stands before a node is below it
-above_front : (low : ℕ) (front : List (ℕ × Node)) (e : ℕ × Node) (back : List (ℕ × Node)) → RisesFrom number_of low (front ++ e ∷ back) → (low ≤ e.0) × IsAbove number_of e.0 front
-above_front low [] e back r = (r.0, tt)
-above_front low (d ∷ front) e back r =
-    let rest = above_front (suc (d.0)) front e back r.1 in
+above_prefix : (low : ℕ) (prefix : List (ℕ × Node)) (e : ℕ × Node) (back : List (ℕ × Node)) → RisesFrom number_of low (prefix ++ e ∷ back) → (low ≤ e.0) × IsAbove number_of e.0 prefix
+above_prefix low [] e back r = (r.0, tt)
+above_prefix low (d ∷ prefix) e back r =
+    let rest = above_prefix (suc (d.0)) prefix e back r.1 in
     (omega (arith, r.0, rest.0), (omega (arith, rest.0), rest.1))
 
-pub rows_before : (es front : List (ℕ × Node)) (e : ℕ × Node) (back : List (ℕ × Node)) → RisesFrom number_of 0 es → es ≡ front ++ e ∷ back → IsAbove state.number_of e.0 (rows_in front)
-rows_before es front e back r split = rows_above e.0 front (above_front 0 front e back (subst (λ l. RisesFrom number_of 0 l) split r)).1
+pub rows_before : (es prefix : List (ℕ × Node)) (e : ℕ × Node) (back : List (ℕ × Node)) → RisesFrom number_of 0 es → es ≡ prefix ++ e ∷ back → IsAbove state.number_of e.0 (rows_in prefix)
+rows_before es prefix e back r split = rows_above e.0 prefix (above_prefix 0 prefix e back (subst (λ l. RisesFrom number_of 0 l) split r)).1

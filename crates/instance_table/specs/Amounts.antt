@@ -2,7 +2,7 @@
 use Rattle.std.specs.Prelude.{ℕ, ◌+◌, ◌-◌, Bool, ◌&&◌, ◌||◌, not, List, [], ◌∷◌, Option, Some, if◌then◌else◌, is_some, length, nat_le, nat_lt}
 use Rattle.schema_model.specs.Classes.{Schema}
 use Rattle.schema_model.specs.declared.value.Value.{Value}
-use Rattle.state_model.specs.declared.place.Wanted.{Wanted}
+use Rattle.state_model.specs.declared.place.Expected.{Expected}
 use Rattle.state_model.specs.declared.row.Row.{Row}
 use Rattle.state_model.specs.declared.command.Command.{Command}
 use Rattle.state_model.specs.declared.row.RowEntry.{RowEntry}
@@ -10,7 +10,7 @@ use Rattle.state_model.specs.declared.command.TableFault.{TableFault}
 use Rattle.state_model.specs.declared.command.TableFault.TheVariants as fault
 use Rattle.state_model.specs.Rows.{values_in}
 use Rattle.state_model.specs.State.{rows_limit, places_limit, text_limit, last_number}
-use Rattle.state_model.specs.Commands.{adds_place, gives_number, holder_of, is_cycle, is_duplicate, is_long_key, is_long_text, is_no_item, is_past_range, is_present, is_wrong_type, value_put, wanted_for}
+use Rattle.state_model.specs.Commands.{adds_place, gives_number, holder_of, is_cycle, is_duplicate, is_long_key, is_long_text, is_no_item, is_past_range, is_present, is_wrong_type, value_put, expected_for}
 use Rattle.command_laws.specs.Accounts.{is_clear, key_added, key_taken, one_if, replaced, row_text, text_in_value}
 
 -- places, of so many before
@@ -43,14 +43,14 @@ limit_causes c row places text next =
     ∷ []
 
 -- of a value, by what its place is declared to hold
-abbrev pub type_causes : Schema → List RowEntry → Option Value → Option Wanted → List (Bool × TableFault)
-type_causes schema rows value wanted =
-    (is_wrong_type schema rows value wanted, fault.WrongType) ∷ (is_past_range value wanted, fault.OutOfRange) ∷ []
+abbrev pub type_causes : Schema → List RowEntry → Option Value → Option Expected → List (Bool × TableFault)
+type_causes schema rows value expected =
+    (is_wrong_type schema rows value expected, fault.WrongType) ∷ (is_past_range value expected, fault.OutOfRange) ∷ []
 
 -- of what the command puts into a row
 abbrev pub value_causes : Schema → List RowEntry → Command → Row → List (Bool × TableFault)
 value_causes schema rows c row =
-    (is_no_item c (Some row), fault.NoItem) ∷ type_causes schema rows (value_put c) (wanted_for schema c (Some row))
+    (is_no_item c (Some row), fault.NoItem) ∷ type_causes schema rows (value_put c) (expected_for schema c (Some row))
 
 -- of the instance that it links to
 abbrev pub link_causes : Schema → List RowEntry → Command → Row → List (Bool × TableFault)

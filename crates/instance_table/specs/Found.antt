@@ -43,7 +43,7 @@ item_number c row = None
 
 -- the item, the link in its place before, and the totals after it, of so many before
 pub record IsPlanned (c : Command) (row : Row) (places text : ℕ) (plan : Plan) : Type 0 where
-  pub number : plan.spot.number ≡ item_number c row
+  pub number : plan.located.number ≡ item_number c row
   pub before : plan.before ≡ link_in (replaced c row)
   pub places_after : plan.totals.places ≡ places_after c row places
   pub text_after : plan.totals.text ≡ text_after c row text

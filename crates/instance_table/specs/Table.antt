@@ -37,7 +37,7 @@ value_of rows holder key = option_and_then (λ r. value_in r key) (row_at rows h
 abbrev pub freed_numbers : List RowEntry → List ℕ
 freed_numbers rows = map (λ (e : RowEntry). e.who) (filter (λ (e : RowEntry). not (is_live (freed rows) e.who)) rows)
 
--- an answer tells what a command does: the new state and the number, or the refusal, or want of memory; without a new state the table is as before
+-- an answer tells what a command does: the new state and the number, or the refusal, or out of memory; without a new state the table is as before
 abbrev pub Answers : Result (State × Option ℕ) TableFault → TableState → TableState → Result (Option ℕ) TableFault → Type 0
 Answers does old new (Ok made) = (does ≡ Ok (new.state, made)) × (new ≡ record old { state = new.state })
 Answers does old new (Err fault.Memory) = new ≡ old

@@ -3,7 +3,7 @@ ghost use Rattle.std.specs.Prelude.{◌≡◌, ◌||◌, is_some, option_and_the
 ghost use Rattle.std.specs.Option.{option_map};
 ghost use Rattle.schema_model.specs.Classes.{home_of};
 ghost use Rattle.state_model.specs.Places.{empty_collection};
-ghost use Rattle.state_model.specs.Commands.{adds_place, gives_number, is_long_key, is_long_text, is_no_field, is_no_item, is_present, value_put, wanted_for};
+ghost use Rattle.state_model.specs.Commands.{adds_place, gives_number, is_long_key, is_long_text, is_no_field, is_no_item, is_present, value_put, expected_for};
 ghost use Rattle.instance_table.specs.Bodies.{row_of};
 ghost use Rattle.instance_table.specs.Found.{is_absent};
 
@@ -12,7 +12,7 @@ use crate::body::Body;
 use crate::found::Found;
 use crate::parts::value_put;
 use schema_model::{Home, Item, Schema, Shape, Value};
-use state_model::{Command, Wanted, field_wants, item_wants};
+use state_model::{Command, Expected, field_expects, item_expects};
 
 /// How many bytes one text value or key may have.
 const ONE_TEXT_LIMIT: usize = 4096;
@@ -35,16 +35,16 @@ pub fn is_no_field(
     schema: &Schema,
     command: &Command,
     body: Option<&Body>,
-    wanted: &Option<Wanted>,
+    expected: &Option<Expected>,
 ) -> bool
-    requires { wanted.now ≡ wanted_for schema.now command.now (option_map row_of (option_copied body)) }
+    requires { expected.now ≡ expected_for schema.now command.now (option_map row_of (option_copied body)) }
     ensures { result ≡ is_no_field schema.now command.now (option_map row_of (option_copied body.entry)) }
 {
     match (command, body) {
         (Command::Make(class), _) => class.0 as usize >= schema.classes().len(),
         (Command::MakeFor(home), _) => !is_collection(schema, *home),
-        (Command::Put(..), Some(Body::Struct(..))) => wanted.is_none(),
-        (Command::Unset(_, field), Some(Body::Struct(class, _))) => field_wants(
+        (Command::Put(..), Some(Body::Struct(..))) => expected.is_none(),
+        (Command::Unset(_, field), Some(Body::Struct(class, _))) => field_expects(
             schema, *class, *field,
         ).is_none(),
         (Command::PutKey(..) | Command::DelKey(..), Some(Body::Map(..))) => false,
@@ -71,13 +71,15 @@ pub fn is_no_item(command: &Command, body: &Body, found: &Found<'_>) -> bool
 }
 
 /// What the place of the value is declared to hold; None where the row isn't there.
-pub fn wanted_for(schema: &Schema, command: &Command, body: Option<&Body>) -> Option<Wanted>
-    ensures { result ≡ wanted_for schema.now command.now (option_map row_of (option_copied body.entry)) }
+pub fn expected_for(schema: &Schema, command: &Command, body: Option<&Body>) -> Option<Expected>
+    ensures { result ≡ expected_for schema.now command.now (option_map row_of (option_copied body.entry)) }
 {
     match (command, body?) {
-        (Command::Put(_, field, _), Body::Struct(class, _)) => field_wants(schema, *class, *field),
+        (Command::Put(_, field, _), Body::Struct(class, _)) => field_expects(
+            schema, *class, *field,
+        ),
         (_, Body::Struct(..)) => None,
-        (_, Body::Map(home, _) | Body::Array(home, _) | Body::Set(home, _)) => item_wants(
+        (_, Body::Map(home, _) | Body::Array(home, _) | Body::Set(home, _)) => item_expects(
             schema, *home,
         ),
     }

@@ -13,7 +13,7 @@ ghost use Rattle.instance_table.specs.Nodes.{node_at, rows_in};
 use crate::graph::Graph;
 use crate::links::link_of;
 use crate::parts::value_put;
-use crate::plan::Spot;
+use crate::plan::Located;
 use schema_model::{Memory, RefNum};
 use state_model::Command;
 use std::alloc::Global;
@@ -91,18 +91,18 @@ fn change_place(
     alloc: Global,
     holder: RefNum,
     command: &Command,
-    spot: &Spot,
+    located: &Located,
     before: Option<RefNum>,
 ) -> Result<(), Memory>
     requires can { IfSome (node_at graph.old.nodes holder) (λ n. CanEdit command.now n.body) }
-    requires number { IfSome (node_at graph.old.nodes holder) (λ n. spot.now.number ≡ item_number command.now (row_of n.body)) }
+    requires number { IfSome (node_at graph.old.nodes holder) (λ n. located.now.number ≡ item_number command.now (row_of n.body)) }
     requires before { IfSome (node_at graph.old.nodes holder) (λ n. before ≡ link_in (replaced command.now (row_of n.body))) }
     ensures ok { IfSome (node_at graph.old.nodes holder) (λ n. OnOk result (graph.new.nodes ≡ place_changed command.now holder n.body graph.old.nodes)) }
     ensures err { OnErr result (IsUndone command.now holder graph.old.nodes graph.new.nodes) }
     ensures sure { takes_out command.now ≡ true → is_ok result ≡ true }
 {
     hold_link(graph, link_of(value_put(command)), holder)?;
-    match graph.edit(alloc, holder, command, spot) {
+    match graph.edit(alloc, holder, command, located) {
         Ok(()) => {
             let_go_link(graph, before, holder);
             Ok(())
@@ -121,11 +121,11 @@ pub fn change(
     alloc: Global,
     holder: RefNum,
     command: &Command,
-    spot: &Spot,
+    located: &Located,
     before: Option<RefNum>,
 ) -> Result<(), Memory>
     requires can { IfSome (node_at graph.old.nodes holder) (λ n. CanEdit command.now n.body) }
-    requires number { IfSome (node_at graph.old.nodes holder) (λ n. spot.now.number ≡ item_number command.now (row_of n.body)) }
+    requires number { IfSome (node_at graph.old.nodes holder) (λ n. located.now.number ≡ item_number command.now (row_of n.body)) }
     requires before { IfSome (node_at graph.old.nodes holder) (λ n. before ≡ link_in (replaced command.now (row_of n.body))) }
     ensures ok { IfSome (node_at graph.old.nodes holder) (λ n. OnOk result (graph.new.nodes ≡ changed command.now holder n.body graph.old.nodes)) }
     ensures err { OnErr result (IsUndone command.now holder graph.old.nodes graph.new.nodes) }
@@ -134,8 +134,8 @@ pub fn change(
     match command {
         Command::Clear(_) => {
             let_go_links(graph, holder);
-            graph.edit(alloc, holder, command, spot)
+            graph.edit(alloc, holder, command, located)
         }
-        _ => change_place(graph, alloc, holder, command, spot, before),
+        _ => change_place(graph, alloc, holder, command, located, before),
     }
 }

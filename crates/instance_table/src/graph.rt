@@ -13,7 +13,7 @@ use crate::body::Body;
 use crate::holders::Holders;
 use crate::node::Node;
 use crate::nodes::Nodes;
-use crate::plan::Spot;
+use crate::plan::Located;
 use crate::roomy_list::RoomyList;
 use schema_model::{Memory, RefNum};
 use state_model::Command;
@@ -99,14 +99,14 @@ impl Graph {
         alloc: Global,
         who: RefNum,
         command: &Command,
-        spot: &Spot,
+        located: &Located,
     ) -> Result<(), Memory>
-        requires number { IfSome (node_at self.old.nodes who) (λ n. spot.now.number ≡ item_number command.now (row_of n.body)) }
+        requires number { IfSome (node_at self.old.nodes who) (λ n. located.now.number ≡ item_number command.now (row_of n.body)) }
         requires can { IfSome (node_at self.old.nodes who) (λ n. CanEdit command.now n.body) }
         ensures after { self.new ≡ (if is_ok result then record self.old { nodes = at_node who (edited_node command.now) self.old.nodes } else self.old) }
         ensures sure { takes_out command.now ≡ true → is_ok result ≡ true }
     {
-        self.nodes.edit(alloc, who, command, spot)
+        self.nodes.edit(alloc, who, command, located)
     }
 
     /// A place more holds a row.

@@ -3,7 +3,7 @@
 
 mod amounts;
 mod behind;
-pub mod body;
+mod body;
 mod cause;
 mod changes;
 mod edits;

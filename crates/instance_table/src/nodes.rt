@@ -11,8 +11,8 @@ ghost use Rattle.instance_table.specs.Nodes.{at_node, held_less, held_more, held
 
 use crate::holding;
 use crate::node::Node;
-use crate::plan::Spot;
-use lists::{push_lean, search, search_near};
+use crate::plan::Located;
+use lists::{push_exact, search, search_near};
 use schema_model::{Memory, RefNum};
 use state_model::{Command, RowEntry, Rows};
 use std::alloc::Global;
@@ -20,7 +20,7 @@ use std::marker::Model;
 use std::mem;
 use trees::{Slot, close_holes, drop_last_holes};
 
-/// The rows by their numbers. One is found at once where no number was left out in front of it, else in logarithmic time.
+/// The rows by their numbers. One is found at once where no number was left out before it, else in logarithmic time.
 /// One that is taken out leaves a hole; holes are closed when they are more than the rows.
 #[derive(Drop)]
 pub struct Nodes {
@@ -107,7 +107,7 @@ impl Nodes {
             number: who.0,
             item: Some(node),
         };
-        push_lean(&mut self.slots, slot)?;
+        push_exact(&mut self.slots, slot)?;
         self.len += 1;
         Ok(())
     }
@@ -132,18 +132,18 @@ impl Nodes {
         alloc: Global,
         who: RefNum,
         command: &Command,
-        spot: &Spot,
+        located: &Located,
     ) -> Result<(), Memory>
-        requires number { IfSome (node_at self.old who) (λ n. spot.now.number ≡ item_number command.now (row_of n.body)) }
+        requires number { IfSome (node_at self.old who) (λ n. located.now.number ≡ item_number command.now (row_of n.body)) }
         requires can { IfSome (node_at self.old who) (λ n. CanEdit command.now n.body) }
         ensures after { self.new ≡ (if is_ok result then at_node who (edited_node command.now) self.old else self.old) }
         ensures sure { takes_out command.now ≡ true → is_ok result ≡ true }
         ensures rises { RisesFrom number_of 0 self.old }
     {
-        let Ok(at) = search_near(self.slots.as_slice(), spot.place, who.0) else {
+        let Ok(at) = search_near(self.slots.as_slice(), located.place, who.0) else {
             return Ok(());
         };
-        holding::edit(&mut self.slots[at], alloc, command, spot.number)
+        holding::edit(&mut self.slots[at], alloc, command, located.number)
     }
 
     /// All rows, each with its number.

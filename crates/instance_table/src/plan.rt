@@ -4,7 +4,7 @@ use state_model::TableFault;
 
 /// What a command found and changes: it isn't looked for again.
 #[derive(Clone, Copy, Debug)]
-pub struct Spot {
+pub struct Located {
     /// Where its row stands among the rows.
     pub place: usize,
     /// The number of the item of its key or value, where there is one.
@@ -14,7 +14,7 @@ pub struct Spot {
 /// What a command that isn't refused does to the row that it changes.
 #[derive(Clone, Copy, Debug)]
 pub struct Plan {
-    pub spot: Spot,
+    pub located: Located,
     /// The link in the place that it writes or takes out.
     pub before: Option<RefNum>,
     /// The totals after it.

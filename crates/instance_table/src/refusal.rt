@@ -6,7 +6,7 @@ ghost use Rattle.state_model.specs.Reached.{is_among};
 ghost use Rattle.state_model.specs.Rows.{is_live, row_at};
 ghost use Rattle.state_model.specs.Sound.{are_sound};
 ghost use Rattle.state_model.specs.State.{last_number, places_limit, text_limit};
-ghost use Rattle.state_model.specs.Commands.{first_cause, gives_number, holder_of, is_cycle, is_duplicate, is_no_ref, row_for, value_put, wanted_for};
+ghost use Rattle.state_model.specs.Commands.{first_cause, gives_number, holder_of, is_cycle, is_duplicate, is_no_ref, row_for, value_put, expected_for};
 ghost use Rattle.command_laws.specs.Accounts.{replaced, row_text};
 ghost use Rattle.instance_table.specs.declared.plan.Verdict.TheVariants.{Makes, Refused};
 ghost use Rattle.instance_table.specs.Amounts.{is_text_full, limit_causes, link_causes, make_causes, text_after, value_causes};
@@ -24,12 +24,12 @@ use crate::graph::Graph;
 use crate::links::link_of;
 use crate::nodes::Nodes;
 use crate::parts::{holder_of, value_put};
-use crate::plan::{Plan, Spot, Verdict};
+use crate::plan::{Located, Plan, Verdict};
 use crate::totals::Totals;
 use crate::typed::type_cause;
 use crate::walk::reaches;
 use schema_model::{LAST_NUMBER, Memory, RefNum, Schema, Value};
-use state_model::{Command, TableFault, Wanted, is_filtered};
+use state_model::{Command, Expected, TableFault, is_filtered};
 use std::alloc::Global;
 
 /// How many rows a room may have.
@@ -82,16 +82,16 @@ fn value_cause(
     command: &Command,
     body: &Body,
     found: &Found<'_>,
-    wanted: &Option<Wanted>,
+    expected: &Option<Expected>,
 ) -> Option<TableFault>
     requires absent { found.now.absent ≡ is_absent command.now (row_of body.now) }
-    requires wanted { wanted.now ≡ wanted_for schema.now command.now (Some (row_of body.now)) }
+    requires expected { expected.now ≡ expected_for schema.now command.now (Some (row_of body.now)) }
     ensures { result ≡ first_cause (value_causes schema.now (rows_in nodes.now) command.now (row_of body.now)) }
 {
     if cause::is_no_item(command, body, found) {
         return Some(TableFault::NoItem);
     }
-    type_cause(schema, nodes, value_put(command), wanted)
+    type_cause(schema, nodes, value_put(command), expected)
 }
 
 // Whether the instance that a command links to reaches the row that it changes.
@@ -263,7 +263,7 @@ fn plan(place: usize, totals: Totals, command: &Command, body: &Body, found: &Fo
     ensures { IsPlanned command.now (row_of body.now) totals.places totals.text result }
 {
     Plan {
-        spot: Spot {
+        located: Located {
             place,
             number: found.number,
         },
@@ -291,15 +291,15 @@ pub fn judge(
     if is_no_ref(nodes, command, body) {
         return Ok(Verdict::Refused(TableFault::NoRef));
     }
-    let wanted = cause::wanted_for(schema, command, body);
-    if cause::is_no_field(schema, command, body, &wanted) {
+    let expected = cause::expected_for(schema, command, body);
+    if cause::is_no_field(schema, command, body, &expected) {
         return Ok(Verdict::Refused(TableFault::NoField));
     }
     let (Some(holder), Some(body)) = (holder_of(command), body) else {
         return Ok(judge_make(nodes.len(), given));
     };
     let found = look_up(command, body);
-    if let Some(fault) = value_cause(schema, nodes, command, body, &found, &wanted) {
+    if let Some(fault) = value_cause(schema, nodes, command, body, &found, &expected) {
         return Ok(Verdict::Refused(fault));
     }
     if let Some(fault) = link_cause(alloc, schema, nodes, holder, command, body)? {

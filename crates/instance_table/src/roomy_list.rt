@@ -3,7 +3,7 @@ ghost use Rattle.std.specs.Prelude.{◌≡◌, ◌≤◌, ◌<◌, [], ◌∷◌
 ghost use Rattle.std.specs.Option.{option_to_list};
 ghost use Rattle.instance_table.specs.Holders.{AscendsFrom};
 
-use lists::make_room;
+use lists::reserve_total;
 use schema_model::{Memory, RefNum};
 use std::alloc::Global;
 use std::marker::Model;
@@ -45,7 +45,7 @@ impl RoomyList {
         ensures ok { OnOk result (room ≤ self.new.room) }
         ensures kept { self.old.room ≤ self.new.room }
     {
-        make_room(&mut self.numbers, room)
+        reserve_total(&mut self.numbers, room)
     }
 
     /// Adds a number.

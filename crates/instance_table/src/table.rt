@@ -109,11 +109,18 @@ impl Table {
             },
             Verdict::Changes(holder, plan) => {
                 let Plan {
-                    spot,
+                    located,
                     before,
                     totals,
                 } = plan;
-                match change(&mut self.graph, self.alloc, holder, command, &spot, before) {
+                match change(
+                    &mut self.graph,
+                    self.alloc,
+                    holder,
+                    command,
+                    &located,
+                    before,
+                ) {
                     Ok(()) => {
                         self.totals = totals;
                         Ok(None)

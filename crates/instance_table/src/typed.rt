@@ -12,7 +12,7 @@ ghost use Rattle.instance_table.specs.Nodes.{rows_in};
 use crate::body::Body;
 use crate::nodes::Nodes;
 use schema_model::{Home, Item, RefNum, ScalarKind, Schema, TypeNum, Value};
-use state_model::{TableFault, Wanted};
+use state_model::{Expected, TableFault};
 
 /// Whether a value is a scalar of a kind, whatever its range.
 fn is_of_kind(value: &Value, kind: ScalarKind) -> bool
@@ -67,47 +67,52 @@ fn leads_to_collection(nodes: &Nodes, home: Home, who: RefNum) -> bool
 }
 
 /// Whether a number is that of a row of what is declared.
-fn leads_to(schema: &Schema, nodes: &Nodes, wanted: &Wanted, who: RefNum) -> bool
-    ensures { result ≡ is_of_type schema.now (rows_in nodes.now) wanted.now (value.Link who) }
+fn leads_to(schema: &Schema, nodes: &Nodes, expected: &Expected, who: RefNum) -> bool
+    ensures { result ≡ is_of_type schema.now (rows_in nodes.now) expected.now (value.Link who) }
 {
-    match wanted {
-        Wanted::Item(Item::Scalar(_)) => false,
-        Wanted::Item(Item::Class(class)) => leads_to_instance(schema, nodes, *class, who),
-        Wanted::Collection(home) => leads_to_collection(nodes, *home, who),
+    match expected {
+        Expected::Item(Item::Scalar(_)) => false,
+        Expected::Item(Item::Class(class)) => leads_to_instance(schema, nodes, *class, who),
+        Expected::Collection(home) => leads_to_collection(nodes, *home, who),
     }
 }
 
 /// Whether a value is of what is declared, whatever its range.
-fn is_of_type(schema: &Schema, nodes: &Nodes, wanted: &Wanted, value: &Value) -> bool
-    ensures { result ≡ is_of_type schema.now (rows_in nodes.now) wanted.now value.now }
+fn is_of_type(schema: &Schema, nodes: &Nodes, expected: &Expected, value: &Value) -> bool
+    ensures { result ≡ is_of_type schema.now (rows_in nodes.now) expected.now value.now }
 {
     match value {
-        Value::Link(who) => leads_to(schema, nodes, wanted, *who),
-        _ => match wanted {
-            Wanted::Item(Item::Scalar(kind)) => is_of_kind(value, *kind),
+        Value::Link(who) => leads_to(schema, nodes, expected, *who),
+        _ => match expected {
+            Expected::Item(Item::Scalar(kind)) => is_of_kind(value, *kind),
             _ => false,
         },
     }
 }
 
 // Whether a whole number is outside the range of its kind.
-fn is_past_range(value: &Value, wanted: &Wanted) -> bool
-    ensures { result ≡ is_past_range (Some value.now) (Some wanted.now) }
+fn is_past_range(value: &Value, expected: &Expected) -> bool
+    ensures { result ≡ is_past_range (Some value.now) (Some expected.now) }
 {
-    match (value, wanted) {
-        (Value::Whole(_), Wanted::Item(Item::Scalar(kind))) => !value.fits(*kind),
+    match (value, expected) {
+        (Value::Whole(_), Expected::Item(Item::Scalar(kind))) => !value.fits(*kind),
         _ => false,
     }
 }
 
 // The first cause in a value by what its place is declared to hold.
-fn value_cause(schema: &Schema, nodes: &Nodes, value: &Value, wanted: &Wanted) -> Option<TableFault>
-    ensures { result ≡ first_cause (type_causes schema.now (rows_in nodes.now) (Some value.now) (Some wanted.now)) }
+fn value_cause(
+    schema: &Schema,
+    nodes: &Nodes,
+    value: &Value,
+    expected: &Expected,
+) -> Option<TableFault>
+    ensures { result ≡ first_cause (type_causes schema.now (rows_in nodes.now) (Some value.now) (Some expected.now)) }
 {
-    if !is_of_type(schema, nodes, wanted, value) {
+    if !is_of_type(schema, nodes, expected, value) {
         return Some(TableFault::WrongType);
     }
-    if is_past_range(value, wanted) {
+    if is_past_range(value, expected) {
         return Some(TableFault::OutOfRange);
     }
     None
@@ -118,12 +123,12 @@ pub fn type_cause(
     schema: &Schema,
     nodes: &Nodes,
     value: Option<&Value>,
-    wanted: &Option<Wanted>,
+    expected: &Option<Expected>,
 ) -> Option<TableFault>
-    ensures { result ≡ first_cause (type_causes schema.now (rows_in nodes.now) (option_copied value.entry) wanted.now) }
+    ensures { result ≡ first_cause (type_causes schema.now (rows_in nodes.now) (option_copied value.entry) expected.now) }
 {
-    match (value, wanted) {
-        (Some(value), Some(wanted)) => value_cause(schema, nodes, value, wanted),
+    match (value, expected) {
+        (Some(value), Some(expected)) => value_cause(schema, nodes, value, expected),
         _ => None,
     }
 }

@@ -74,7 +74,7 @@ HubsFollow =
 -- two runs of one schema, whatever requests are taken to ask for in either: lives with equal records are given equal bytes
 abbrev pub HubsGiveEqualBytes : Type 0
 HubsGiveEqualBytes =
-    (read readen : List RoomDef → List ℕ → List ℕ → Result Request AskFault) (schema : Schema) (process other : List ℕ) (defs others : List RoomDef) (events happened : List HubEvent)
+    (read read_other : List RoomDef → List ℕ → List ℕ → Result Request AskFault) (schema : Schema) (process other : List ℕ) (defs others : List RoomDef) (events happened : List HubEvent)
     → CanRun schema defs events → CanRun schema others happened → (k l : HubLife)
-    → Contains (hub_run (rules_of read) (new_hub schema process defs) events).lives k → Contains (hub_run (rules_of readen) (new_hub schema other others) happened).lives l
+    → Contains (hub_run (rules_of read) (new_hub schema process defs) events).lives k → Contains (hub_run (rules_of read_other) (new_hub schema other others) happened).lives l
     → k.entries ≡ l.entries → k.outputs ≡ l.outputs

@@ -8,6 +8,7 @@ use Rattle.state_model.specs.declared.row.RowEntry.{RowEntry}
 use Rattle.wire_model.specs.Frame.{state_frame, full_state, has_operation}
 use Rattle.frame_model.specs.Frames.{server_bytes}
 use Rattle.frame_model.specs.Reading.{read_client}
+use Rattle.frame_model.specs.declared.codes.TheConstants.{CONSENTED}
 use Rattle.frame_model.specs.declared.frame.ServerFrame.TheVariants as server
 use Rattle.frame_model.specs.declared.frame.ClientFrame.{ClientFrame}
 use Rattle.frame_model.specs.declared.frame.ClientFrame.TheVariants as client
@@ -36,7 +37,7 @@ sent_opened s token = (s, [])
 -- the acknowledgement leads on from joining, and a leave closes with 4000
 abbrev pub sent_read : Standing → Result ClientFrame FrameFault → Standing × List Sending
 sent_read (Joining queue) (Ok client.Ack) = (Due queue, [])
-sent_read s (Ok client.Leave) = (Gone, Closing 4000 ∷ [])
+sent_read s (Ok client.Leave) = (Gone, Closing CONSENTED ∷ [])
 sent_read s (Err f) = (s, Frame unread_frame ∷ [])
 sent_read s r = (s, [])
 

@@ -1,5 +1,11 @@
+pub mod ListFacts
+pub mod Numbers
+pub mod Options
+pub mod Passing
 pub mod Places
+pub mod Prefixes
+pub mod Results
 pub mod RisingLaws
 pub mod SameBytes
-pub mod Fronts
+pub mod Tests
 pub mod Utf8Laws

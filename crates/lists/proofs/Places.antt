@@ -5,7 +5,8 @@ use Rattle.std.specs.Ordering.{ordering_index}
 use Rattle.std.proofs.lemmas.Bool.Decides.{nat_tests}
 use Rattle.std.proofs.lemmas.Option.{same_Some}
 use Rattle.lists.specs.Rising.{RisesFrom, IsAbove, find, after_key, put, remove}
-use Rattle.lists.proofs.RisingLaws.{key_at, find_at, find_below, remove_missing}
+use Rattle.lists.proofs.ListFacts.{drop_first, drop_none, drop_rest, drop_still}
+use Rattle.lists.proofs.RisingLaws.{key_at, find_at, find_below, remove_missing, IsAbove-take}
 
 -- a later key is no smaller
 key_after : {E : Type 0} (key : E → ℕ) (low : ℕ) (es : List E) (i j : ℕ) (d : E) → RisesFrom key low es → i ≤ j → j < length es → key (get_or es i d) ≤ key (get_or es j d)
@@ -140,6 +141,16 @@ pub after_none : {E : Type 0} (es : List E) → slice_get es 0 ≡ None → es �
 after_none [] h = refl
 after_none (e ∷ es) h = cc
 
+-- an item behind others is no lower than the first
+at_least : {E : Type 0} (key : E → ℕ) (low : ℕ) (xs : List E) (x : E) (ys : List E) → RisesFrom key low (xs ++ x ∷ ys) → low ≤ key x
+at_least key low [] x ys r = r.0
+at_least key low (z ∷ xs) x ys r = omega (arith, r.0, at_least key (suc (key z)) xs x ys r.1)
+
+-- the items before one are below it
+pub above_prefix : {E : Type 0} (key : E → ℕ) (low : ℕ) (xs : List E) (x : E) (ys : List E) → RisesFrom key low (xs ++ x ∷ ys) → IsAbove key (key x) xs
+above_prefix key low [] x ys r = tt
+above_prefix key low (z ∷ xs) x ys r = (at_least key (suc (key z)) xs x ys r.1, above_prefix key (suc (key z)) xs x ys r.1)
+
 module _ {E : Type 0} (key : E → ℕ) (es out : List E) (from : Option ℕ) (x : E) (rises : RisesFrom key 0 es) (next : slice_get (after_key key from es) 0 ≡ Some x) where
   -- what was passed, and the next item
   pub passed_next : out ++ after_key key from es ≡ es → (out ++ x ∷ []) ++ after_key key (Some (key x)) es ≡ es
@@ -151,40 +162,20 @@ module _ {E : Type 0} (key : E → ℕ) (es out : List E) (from : Option ℕ) (x
 
   -- the next item is above those that were passed
   pub above_passed : out ++ after_key key from es ≡ es → IsAbove key (key x) out
-  above_passed so_far = above_front 0 out (after_key key (Some (key x)) es) (subst (RisesFrom key 0) (sym passed_whole) rises)
+  above_passed so_far = above_prefix key 0 out x (after_key key (Some (key x)) es) (subst (RisesFrom key 0) (sym passed_whole) rises)
     where
       passed_whole : out ++ x ∷ after_key key (Some (key x)) es ≡ es
       passed_whole = ap (λ l. out ++ l) (sym (after_next key 0 from es x rises next)) ∙ so_far
 
-      at_least : (low : ℕ) (xs ys : List E) → RisesFrom key low (xs ++ x ∷ ys) → low ≤ key x
-      at_least low [] ys r = r.0
-      at_least low (z ∷ xs) ys r = omega (arith, r.0, at_least (suc (key z)) xs ys r.1)
-
-      above_front : (low : ℕ) (xs ys : List E) → RisesFrom key low (xs ++ x ∷ ys) → IsAbove key (key x) xs
-      above_front low [] ys r = tt
-      above_front low (z ∷ xs) ys r = (at_least (suc (key z)) xs ys r.1, above_front (suc (key z)) xs ys r.1)
-
 -- ---- place by place
-
--- what stands at a place, and what is behind it
-at_place : {E : Type 0} (es : List E) (n : ℕ) (x : E) (rest : List E) → drop n es ≡ x ∷ rest → (slice_get es n ≡ Some x) × (drop (suc n) es ≡ rest)
-at_place [] zero x rest h = cc
-at_place [] (suc n) x rest h = cc
-at_place (e ∷ es) zero x rest h = (cc, cc)
-at_place (e ∷ es) (suc n) x rest h = at_place es n x rest h
-
-no_place : {E : Type 0} (es : List E) (n : ℕ) → drop n es ≡ [] → (slice_get es n ≡ None) × (drop (suc n) es ≡ [])
-no_place [] zero h = (refl, refl)
-no_place [] (suc n) h = (refl, refl)
-no_place (e ∷ es) zero h = cc
-no_place (e ∷ es) (suc n) h = no_place es n h
 
 module _ {E : Type 0} (key : E → ℕ) (es : List E) (n : ℕ) (from : Option ℕ) (stands : after_key key from es ≡ drop n es) where
   -- where the next item behind a key is the n-th one, that behind it is the next
   pub nth_next : (x : E) → RisesFrom key 0 es → slice_get (after_key key from es) 0 ≡ Some x → (slice_get es n ≡ Some x) × (after_key key (Some (key x)) es ≡ drop (n + 1) es)
   nth_next x rises next =
-      let parts = at_place es n x (after_key key (Some (key x)) es) (sym stands ∙ after_next key 0 from es x rises next) in
-      (parts.0, rw plus_one (sym parts.1))
+      let left : drop n es ≡ x ∷ after_key key (Some (key x)) es = sym stands ∙ after_next key 0 from es x rises next in
+      let rest = after_key key (Some (key x)) es in
+      (drop_first es n x rest left, rw plus_one (sym (drop_rest es n x rest left)))
     where
       plus_one : n + 1 ≡ suc n
       plus_one = omega arith
@@ -193,8 +184,18 @@ module _ {E : Type 0} (key : E → ℕ) (es : List E) (n : ℕ) (from : Option �
   pub nth_none : slice_get (after_key key from es) 0 ≡ None → (slice_get es n ≡ None) × (after_key key from es ≡ drop (n + 1) es)
   nth_none none =
       let nothing = after_none (after_key key from es) none in
-      let parts = no_place es n (sym stands ∙ nothing) in
-      (parts.0, nothing ∙ sym (rw plus_one parts.1))
+      let left : drop n es ≡ [] = sym stands ∙ nothing in
+      (drop_none es n left, nothing ∙ sym (rw plus_one (drop_still es n left)))
     where
       plus_one : n + 1 ≡ suc n
       plus_one = omega arith
+
+-- ---- copies
+
+-- of a copy, the next item is above those made so far
+pub next_is_above : {E : Type 0} (key : E → ℕ) (all items out : List E) (i : ℕ) (item copy : E) →
+    RisesFrom key 0 all → items ≡ all → out ≡ take i items → i < length items → item ≡ get_or items i item → copy ≡ item → IsAbove key (key copy) out
+next_is_above key all items out i item copy rises same so_far within at copied =
+    let rising : RisesFrom key 0 items = rw same rises in
+    let number : key copy ≡ key (get_or items i item) = ap key (copied ∙ at) in
+    rw (so_far, number) (IsAbove-take key 0 items i item rising within)

@@ -34,6 +34,13 @@ impl Bytes {
         Bytes { items }
     }
 
+    /// The same bytes again.
+    pub fn copy(&self, alloc: Global) -> Result<Bytes, Memory>
+        ensures { IfOk result (λ b. b ≡ self.now) }
+    {
+        Bytes::from_slice(alloc, self.as_slice())
+    }
+
     pub fn as_slice(&self) -> &[u8]
         ensures { result.now ≡ self.now }
     {

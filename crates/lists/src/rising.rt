@@ -2,6 +2,7 @@ ghost use Rattle.std.specs.Prelude.{◌≡◌, ◌-◌, suc, ◌<◌, ◌≤◌,
 ghost use Rattle.std.specs.Option.{option_to_list};
 ghost use Rattle.lists.specs.Rising.{RisesFrom, IsAbove, after_key, find, put, remove};
 
+use crate::copied::Copied;
 use crate::memory::Memory;
 use std::alloc::Global;
 use std::marker::Model;
@@ -45,12 +46,12 @@ impl<T: Keyed> Rising<T> {
         }
     }
 
-    /// An empty list with room for so many items, which take no more memory.
-    pub fn with_room(alloc: Global, room: usize) -> Result<Self, Memory>
+    /// The empty list. It takes memory for as many items, as `Vec::with_capacity` does.
+    pub fn with_capacity(alloc: Global, capacity: usize) -> Result<Self, Memory>
         ensures { IfOk result (λ list. list ≡ []) }
     {
         Ok(Rising {
-            items: Vec::with_capacity(alloc, room)?,
+            items: Vec::with_capacity(alloc, capacity)?,
         })
     }
 
@@ -134,6 +135,22 @@ impl<T: Keyed> Rising<T> {
             Ok(at) => Some(self.items.remove(at)),
             Err(_) => None,
         }
+    }
+}
+
+impl<T: Keyed + Copied> Rising<T> {
+    /// A second list of the same items.
+    pub fn copy(&self, alloc: Global) -> Result<Rising<T>, Memory>
+        ensures { IfOk result (λ x. x ≡ self.now) }
+    {
+        let mut out = Rising::new(alloc);
+        if self.is_empty() {
+            return Ok(out);
+        }
+        for item in self.as_slice() {
+            out.push(item.copy(alloc)?)?;
+        }
+        Ok(out)
     }
 }
 

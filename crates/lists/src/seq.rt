@@ -1,5 +1,6 @@
-ghost use Rattle.std.specs.Prelude.{◌≡◌, ◌-◌, ◌==◌, [], ◌∷◌, ◌++◌, length, take, slice_get, option_to_list, is_ok, if◌then◌else◌};
+ghost use Rattle.std.specs.Prelude.{◌≡◌, ◌-◌, ◌==◌, [], ◌∷◌, ◌++◌, length, take, slice_get, option_to_list, is_ok, if◌then◌else◌, IfOk};
 
+use crate::copied::Copied;
 use crate::memory::Memory;
 use std::alloc::Global;
 use std::marker::Model;
@@ -76,5 +77,18 @@ impl<T> Seq<T> {
         ensures items { self.old ≡ self.new ++ option_to_list result }
     {
         self.items.pop()
+    }
+}
+
+impl<T: Copied> Seq<T> {
+    /// A second list of the same items.
+    pub fn copy(&self, alloc: Global) -> Result<Seq<T>, Memory>
+        ensures { IfOk result (λ x. x ≡ self.now) }
+    {
+        let mut out = Seq::new(alloc);
+        for item in self.as_slice() {
+            out.push(item.copy(alloc)?)?;
+        }
+        Ok(out)
     }
 }

@@ -2,6 +2,7 @@ ghost use Rattle.std.specs.Prelude.{◌≡◌, ◌==◌, length, IfOk};
 ghost use Rattle.std.specs.String.{string_bytes};
 ghost use Rattle.lists.specs.Utf8.{GivesText};
 
+use crate::copied::Copied;
 use crate::memory::Memory;
 use std::alloc::Global;
 use std::marker::Model;
@@ -97,5 +98,11 @@ impl Text {
         ensures { IfOk result (λ t. t ≡ self.now) }
     {
         Text::from_text(alloc, self.as_str())
+    }
+}
+
+impl Copied for Text {
+    fn copy(&self, alloc: Global) -> Result<Text, Memory> {
+        self.copy(alloc)
     }
 }

@@ -2,7 +2,7 @@
 #![tactic(auto)]
 
 mod fault;
-pub mod live;
+mod live;
 
 pub use fault::ExpandFault;
 pub use instance_table::Table;

@@ -1,7 +1,6 @@
 -- The load that is made: rows worked out by hand and by a second reckoning of the draws.
-use Rattle.std.proofs.Common.{◌≡◌, ℕ, ◌+◌, List, [], ◌∷◌, map, length, refl, codes}
+use Rattle.std.proofs.Common.{◌≡◌, ◌+◌, [], ◌∷◌, map, length, refl, codes}
 use Rattle.state_model.specs.declared.command.Command.TheVariants.{Put}
-use Rattle.hub_model.specs.declared.event.HubEvent.{HubEvent}
 use Rattle.hub_model.specs.declared.event.HubEvent.TheVariants.{Frame, Lost, Opening}
 use Rattle.load_maker.specs.Generated.{again, after_move, after_round, commanded, dropped_or_returned, drawn, game_made, gold_given, most_moves, next_state, player_made, return_id, root_made, seat_of, session_id, thing_made, thing_moved, token_id, up_to, whole}
 

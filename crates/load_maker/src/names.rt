@@ -1,12 +1,11 @@
 //! The ids and targets of a load.
 ghost use Rattle.std.specs.Prelude.{◌≡◌, ◌/◌, ◌++◌, IfOk, IsTrue, codes};
-ghost use Rattle.hub_model.specs.Ids.{is_id};
+ghost use Rattle.schema_model.specs.Ids.{is_id};
 ghost use Rattle.hub_model.specs.Replies.{join_or_create_target, opening_target};
 ghost use Rattle.load_maker.specs.Generated.{digit, process_id, return_id, return_target, room_id, session_id, token_id};
 
 use lists::{Memory, Text};
-use matchmaker::id_text;
-use schema_model::Id;
+use schema_model::{Id, id_text};
 use std::alloc::Global;
 
 /// The process.

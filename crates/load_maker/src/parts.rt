@@ -8,9 +8,8 @@ ghost use Rattle.load_maker.specs.Generated.{acknowledged, asked, card_made, com
 use crate::names::{ROOM, join_target, opening_target, session_id, token_id};
 use hub_model::{Events, HubEvent};
 use lists::{Memory, Text};
-use matchmaker::id_text;
 use room_model::Act;
-use schema_model::{Bytes, ConnNum, Home, Pair, RefNum, Tag, TypeNum, Value};
+use schema_model::{Bytes, ConnNum, Home, Pair, RefNum, Tag, TypeNum, Value, id_text};
 use state_model::Command;
 use std::alloc::Global;
 

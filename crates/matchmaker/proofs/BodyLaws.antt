@@ -13,7 +13,7 @@ use Rattle.serde_json.specs.Data.{Data, null, boolean, number, string, array, ob
 use Rattle.serde_json.specs.Find.{as_object, as_str, get, get_member}
 use Rattle.serde_json.specs.Read.{read}
 use Rattle.serde_json.specs.Written.{compact_text, has_float, members_have_float}
-use Rattle.hub_model.specs.Ids.{is_id}
+use Rattle.schema_model.specs.Ids.{is_id}
 use Rattle.hub_model.specs.Requests.{Member, said_of}
 use Rattle.matchmaker.specs.Bodies.{all_said, id_said, members_in, members_said, said_by, said_in, said_of_data, token_in}
 

@@ -14,27 +14,8 @@ use Rattle.serde_json.specs.Written.{compact_text, has_float}
 use Rattle.serde_json.specs.declared.value.Value as value
 use Rattle.serde_json.specs.declared.value.Value.{the_lemmas}
 use Rattle.json.specs.Print.{escape_byte, quoted}
-use Rattle.hub_model.specs.Ids.{is_id, is_id_byte}
+use Rattle.schema_model.specs.Ids.{is_id, is_id_byte}
 use Rattle.hub_model.specs.Replies.{json_byte, json_text}
-
--- ---- ids
-
-small_byte : (b : ℕ) → is_id_byte b ≡ true → b < 128
-small_byte b h = grind (arith, nat_tests)
-
-IsAscii-id_bytes : (w : List ℕ) → list_all is_id_byte w ≡ true → IsAscii w
-IsAscii-id_bytes [] h = IsAscii-nil
-IsAscii-id_bytes (b ∷ w) h =
-    let p = and_parts (is_id_byte b) (list_all is_id_byte w) h in IsAscii-cons b w (small_byte b p.0) (IsAscii-id_bytes w p.1)
-
--- an id is UTF-8
-pub utf8_from_id : (w : List ℕ) → is_id w ≡ true → IsUtf8 w
-utf8_from_id w h = IsUtf8-from_ascii w (IsAscii-id_bytes w (and_parts (length w == 9) (list_all is_id_byte w) h).1)
-
--- a result whose error tells that a fact isn't so, where it is so
-pub ok_of_cases : {T E : Type 0} (U : Type 0) (P : T → Type 0) (Q : E → Type 0) (r : Result T E) → MatchResult r P (λ e. (U → ⊥) × Q e) → U → IsOk r
-ok_of_cases U P Q (Ok x) h u = cc
-ok_of_cases U P Q (Err e) h u = absurd (h.0 u)
 
 -- ---- texts in quotes
 

@@ -1,4 +1,4 @@
--- Fronts and parts of texts.
+-- Prefixes and parts of texts.
 use Rattle.std.proofs.Common.{◌≡◌, ℕ, ◌+◌, ◌-◌, ◌==◌, List, [], ◌∷◌, ◌++◌, Option, Some, None, take, drop, length, refl, arith, true, false, Bool, cond, ◌<◌, ◌≤◌, ◌≢◌, Bor, unwrap_or, option_map, nat_lt, inl, inr, sym, length-drop}
 use Rattle.std.specs.Option.{MatchOption}
 use Rattle.std.proofs.lemmas.List.{take_all, drop_all}
@@ -6,7 +6,7 @@ use Rattle.std.proofs.lemmas.Bool.{cases_Bool, eqb-true}
 use Rattle.std.proofs.lemmas.Bool.Decides.{nat_tests}
 use Rattle.std.specs.List.{onto_first, position_or_len, slice_split}
 use Rattle.std.proofs.lemmas.Grind.{common_steps}
-use Rattle.hub_model.specs.Requests.{behind_front, up_to}
+use Rattle.hub_model.specs.Requests.{after_prefix, up_to}
 use Rattle.hub_model.specs.Openings.{behind, grown, id_first, pieces}
 
 same : (x : ℕ) → x == x ≡ true
@@ -41,21 +41,21 @@ found_from p (x ∷ xs) = grind (arith, common_steps, found_from p xs)
 pub place_is : (p : ℕ → Bool) (xs : List ℕ) → unwrap_or (cond (nat_lt (position_or_len p xs) (length xs)) (Some (position_or_len p xs)) None) (length xs) ≡ position_or_len p xs
 place_is p xs = let within : position_or_len p xs ≤ length xs = found_from p xs in grind (arith, nat_tests)
 
-pub behind_front_all : (front rest : List ℕ) → behind_front front (front ++ rest) ≡ Some rest
-behind_front_all [] rest = refl
-behind_front_all (x ∷ xs) rest = rw (same x) (behind_front_all xs rest)
+pub after_prefix_all : (prefix rest : List ℕ) → after_prefix prefix (prefix ++ rest) ≡ Some rest
+after_prefix_all [] rest = refl
+after_prefix_all (x ∷ xs) rest = rw (same x) (after_prefix_all xs rest)
 
-pub behind_front_none : (front text : List ℕ) → ((rest : List ℕ) → text ≡ front ++ rest → ⊥) → behind_front front text ≡ None
-behind_front_none [] text h = absurd (h text refl)
-behind_front_none (x ∷ xs) [] h = refl
-behind_front_none (x ∷ xs) (y ∷ ys) h = elim (cases_Bool (x == y)) [
-  | inl same_byte ↦ rw same_byte (behind_front_none xs ys (λ rest is. h rest (cc (is, eqb-true _ _ same_byte))))
+pub after_prefix_none : (prefix text : List ℕ) → ((rest : List ℕ) → text ≡ prefix ++ rest → ⊥) → after_prefix prefix text ≡ None
+after_prefix_none [] text h = absurd (h text refl)
+after_prefix_none (x ∷ xs) [] h = refl
+after_prefix_none (x ∷ xs) (y ∷ ys) h = elim (cases_Bool (x == y)) [
+  | inl same_byte ↦ rw same_byte (after_prefix_none xs ys (λ rest is. h rest (cc (is, eqb-true _ _ same_byte))))
   | inr other ↦ rw other refl
 ]
 
-pub behind_front_is : (front text : List ℕ) (r : Option (Bor (List ℕ))) → MatchOption r ((rest : List ℕ) → text ≢ front ++ rest) (λ x. text ≡ front ++ x.now) → option_map (λ x. x.now) r ≡ behind_front front text
-behind_front_is front text None none = sym (behind_front_none front text none)
-behind_front_is front text (Some x) is = rw is (sym (behind_front_all front x.now))
+pub after_prefix_is : (prefix text : List ℕ) (r : Option (Bor (List ℕ))) → MatchOption r ((rest : List ℕ) → text ≢ prefix ++ rest) (λ x. text ≡ prefix ++ x.now) → option_map (λ x. x.now) r ≡ after_prefix prefix text
+after_prefix_is prefix text None none = sym (after_prefix_none prefix text none)
+after_prefix_is prefix text (Some x) is = rw is (sym (after_prefix_all prefix x.now))
 
 pub short_is_no_id : (text : List ℕ) → length text < 9 → id_first text ≡ None
 short_is_no_id text h = let short : length (take 9 text) == 9 ≡ false = grind (arith, nat_tests, common_steps) in rw short refl

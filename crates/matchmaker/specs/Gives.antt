@@ -18,7 +18,7 @@ has_escape = list_any (λ b. b == 37)
 abbrev pub takes_memory : List ℕ → List ℕ → Bool
 takes_memory target body = has_escape target || nat_lt 0 (length body)
 
--- exactly the request, or the first point by which there is none; or want of memory, where the target asks for something and the
+-- exactly the request, or the first point by which there is none; or out of memory, where the target asks for something and the
 -- body can be read, and there is a request or an escape or a body to read
 abbrev pub GivesRequest : List ℕ → List ℕ → Result Request AskFault → Result Request AskFault → Type 0
 GivesRequest target body (Ok q) there = there ≡ Ok q
@@ -31,7 +31,7 @@ GivesAsked raw body (Ok q) there = there ≡ Ok q
 GivesAsked raw body (Err Memory) there = IsOk there ⊎ IsTrue (takes_memory raw body)
 GivesAsked raw body (Err f) there = there ≡ Err f
 
--- the same of what was read, where want of memory comes only once there is a request
+-- the same of what was read, where out of memory comes only once there is a request
 abbrev pub GivesFound : Result Request AskFault → Result Request AskFault → Type 0
 GivesFound (Ok q) there = there ≡ Ok q
 GivesFound (Err Memory) there = IsOk there
@@ -43,7 +43,7 @@ LacksBody body BadPayload = said_by body ≡ None
 LacksBody body Memory = 0 < length body
 LacksBody body f = ⊥
 
--- the request of these parts, or want of memory
+-- the request of these parts, or out of memory
 abbrev pub MakesRequest : Result Request AskFault → Method → List ℕ → List (List ℕ) → Option (List ℕ) → Type 0
 MakesRequest (Ok q) method name criteria token = q ≡ record { method = method; name = name; criteria = criteria; token = token }
 MakesRequest (Err Memory) method name criteria token = ⊤

@@ -7,11 +7,10 @@ ghost use Rattle.hub_model.specs.declared.request.AskFault.TheVariants.{BadPaylo
 ghost use Rattle.matchmaker.specs.Bodies.{all_said, can_be_read, id_said, members_in, said_by, said_of_data, token_in};
 ghost use Rattle.matchmaker.specs.Gives.{LacksBody};
 
-use crate::id::id_of;
 use crate::whole::has_float;
 use hub_model::AskFault;
 use lists::{Memory, Text};
-use schema_model::Id;
+use schema_model::{Id, id_of};
 use serde_json::{Map, Value};
 use std::alloc::Global;
 use validate::is_json;

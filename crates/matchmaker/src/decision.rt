@@ -1,10 +1,14 @@
 //! What a request leads to.
-ghost use Rattle.std.specs.Prelude.{◌≡◌, ◌<◌, ◌^◌, ◌++◌, codes, length, true, IfOk, OnErr};
-ghost use Rattle.hub_model.specs.Decisions.{by_def, decide, joined_at, kept_at, room_at};
+ghost use Rattle.std.specs.Prelude.{◌≡◌, ◌<◌, ◌^◌, ◌++◌, codes, length, option_and_then, true, IfOk, OnErr};
+ghost use Rattle.std.specs.List.{position};
+ghost use Rattle.hub_model.specs.Decisions.{by_def, decide, joined_at, kept_at, meets, room_at};
+ghost use Rattle.matchmaker.specs.Found.{found_decision};
+ghost use Rattle.frame_model.specs.declared.codes.TheConstants.{INVALID_ROOM};
 ghost use Rattle.hub_model.specs.declared.request.Decision.TheVariants as decision;
 ghost use Rattle.matchmaker.specs.Gives.{is_refusal};
 
 use crate::listing::{def_at, is_open_at, oldest, room_at};
+use frame_model::codes::{EXPIRED, INVALID_CRITERIA, INVALID_ROOM, NO_HANDLER};
 use hub_model::{Decision, Listing, Method, Request};
 use lists::{Memory, Text};
 use room_model::RoomDef;
@@ -12,7 +16,7 @@ use schema_model::Id;
 use std::alloc::Global;
 
 /// What a request leads to. Rooms are in the order of their creation, and `kept` is the session whose seat is kept under
-/// the request's token in the room that it names. Memory is taken for the text of a refusal alone.
+/// the request's token in the room that it names. Memory is taken only for the text of a refusal.
 pub fn decide(
     alloc: Global,
     defs: &[RoomDef],
@@ -44,17 +48,44 @@ fn by_def(
     ensures value { IfOk result (λ d. d ≡ by_def defs.now rooms.now request.now) }
     ensures memory { OnErr result (is_refusal (by_def defs.now rooms.now request.now) ≡ true) }
 {
-    let Some(def) = def_at(defs, request.name.as_str()) else {
-        return refuse(alloc, 4210, "no handler");
+    let def = def_at(defs, request.name.as_str());
+    let room = oldest_in(rooms, def, request.criteria.as_slice());
+    decide_found(alloc, &request.method, def, room)
+}
+
+// The oldest room that is open, of a definition where one was found, and has these criteria.
+fn oldest_in(rooms: &[Listing], def: Option<u32>, criteria: &[Text]) -> Option<u32>
+    requires { length rooms.now < 2 ^ 32 }
+    ensures { result ≡ option_and_then (λ d. position (meets d criteria.now) rooms.now) def }
+{
+    match def {
+        Some(def) => oldest(rooms, def, criteria),
+        None => None,
+    }
+}
+
+/// What a request by the name of a definition leads to where these were found: the definition, and the oldest room of it that
+/// is open and has the request's criteria. Memory is taken only for the text of a refusal.
+pub fn decide_found(
+    alloc: Global,
+    method: &Method,
+    def: Option<u32>,
+    room: Option<u32>,
+) -> Result<Decision, Memory>
+    ensures value { IfOk result (λ d. d ≡ found_decision method.now def room) }
+    ensures memory { OnErr result (is_refusal (found_decision method.now def room) ≡ true) }
+{
+    let Some(def) = def else {
+        return refuse(alloc, NO_HANDLER, "no handler");
     };
-    match request.method {
-        Method::JoinOrCreate => Ok(match oldest(rooms, def, request.criteria.as_slice()) {
+    match method {
+        Method::JoinOrCreate => Ok(match room {
             Some(room) => Decision::Join(room),
             None => Decision::Make(def),
         }),
-        Method::Join => match oldest(rooms, def, request.criteria.as_slice()) {
+        Method::Join => match room {
             Some(room) => Ok(Decision::Join(room)),
-            None => refuse(alloc, 4211, "no room meets the criteria"),
+            None => refuse(alloc, INVALID_CRITERIA, "no room meets the criteria"),
         },
         Method::Create | Method::JoinById | Method::Reconnect => Ok(Decision::Make(def)),
     }
@@ -87,19 +118,19 @@ fn kept_at(alloc: Global, rooms: &[Listing], id: &str, kept: Option<Id>) -> Resu
     };
     match kept {
         Some(session) => Ok(Decision::Return(at, session)),
-        None => refuse(alloc, 4214, "seat expired"),
+        None => refuse(alloc, EXPIRED, "seat expired"),
     }
 }
 
-fn refuse(alloc: Global, code: u32, text: &str) -> Result<Decision, Memory>
+fn refuse(alloc: Global, code: u16, text: &str) -> Result<Decision, Memory>
     ensures { IfOk result (λ d. d ≡ decision.Refuse code text.now) }
 {
-    Ok(Decision::Refuse(code, Text::from_text(alloc, text)?))
+    Ok(Decision::Refuse(u32::from(code), Text::from_text(alloc, text)?))
 }
 
 fn refuse_room(alloc: Global, id: &str, what: &str) -> Result<Decision, Memory>
-    ensures { IfOk result (λ d. d ≡ decision.Refuse 4212 (codes "room " ++ (id.now ++ (codes " " ++ what.now)))) }
+    ensures { IfOk result (λ d. d ≡ decision.Refuse INVALID_ROOM (codes "room " ++ (id.now ++ (codes " " ++ what.now)))) }
 {
     let text = format!(in alloc; "room {id} {what}")?;
-    Ok(Decision::Refuse(4212, Text::from_string(text)))
+    Ok(Decision::Refuse(u32::from(INVALID_ROOM), Text::from_string(text)))
 }

@@ -5,10 +5,9 @@ ghost use Rattle.std.specs.Str.{bytes_eq};
 ghost use Rattle.hub_model.specs.Requests.{up_to};
 ghost use Rattle.hub_model.specs.Openings.{id_first, pieces, read_target, value_of, with_process, with_query, with_room};
 
-use crate::id::id_of;
-use crate::text::{behind, behind_front, up_to};
+use crate::text::{after_prefix, behind, up_to};
 use hub_model::Opening;
-use schema_model::Id;
+use schema_model::{Id, id_of};
 
 /// What a target opens: it is `/PROCESS/ROOM?QUERY`, where the query has a session and may have a token. Of a key that
 /// comes again the first value counts, and other keys are passed over; a piece without `=` has the empty value. A token that
@@ -16,7 +15,7 @@ use schema_model::Id;
 pub fn read_target(target: &str) -> Option<Opening>
     ensures { result ≡ read_target target.now }
 {
-    let rest = behind_front(b"/", target.as_bytes())?;
+    let rest = after_prefix(b"/", target.as_bytes())?;
     let process = id_first(rest)?;
     with_process(process, &rest[9..])
 }
@@ -24,7 +23,7 @@ pub fn read_target(target: &str) -> Option<Opening>
 fn with_process(process: Id, rest: &[u8]) -> Option<Opening>
     ensures { result ≡ with_process (process, rest.now) }
 {
-    let rest = behind_front(b"/", rest)?;
+    let rest = after_prefix(b"/", rest)?;
     let room = id_first(rest)?;
     with_room(process, room, &rest[9..])
 }
@@ -32,7 +31,7 @@ fn with_process(process: Id, rest: &[u8]) -> Option<Opening>
 fn with_room(process: Id, room: Id, rest: &[u8]) -> Option<Opening>
     ensures { result ≡ with_room process (room, rest.now) }
 {
-    with_query(process, room, behind_front(b"?", rest)?)
+    with_query(process, room, after_prefix(b"?", rest)?)
 }
 
 fn with_query(process: Id, room: Id, query: &[u8]) -> Option<Opening>
@@ -51,7 +50,7 @@ fn with_query(process: Id, room: Id, query: &[u8]) -> Option<Opening>
     })
 }
 
-// An id in front of a text.
+// An id before a text.
 #[tactic(auto, using(crate::proofs::Texts::short_is_no_id))]
 fn id_first(text: &[u8]) -> Option<Id>
     ensures id { id_first text.now ≡ option_map (λ id. (id, drop 9 text.now)) result }

@@ -2,13 +2,12 @@
 ghost use Rattle.std.specs.Prelude.{◌≡◌, ◌++◌, codes, IsTrue, IfOk};
 ghost use Rattle.std.specs.Fmt.{decimal};
 ghost use Rattle.std.specs.String.{string_bytes};
-ghost use Rattle.hub_model.specs.Ids.{is_id};
+ghost use Rattle.schema_model.specs.Ids.{is_id};
 ghost use Rattle.hub_model.specs.Replies.{json_text, refusal_reply, seat_reply};
 
-use crate::id::id_text;
 use hub_model::Listing;
 use lists::{Memory, Text};
-use schema_model::Id;
+use schema_model::{Id, id_text};
 use serde_json::Value;
 use std::alloc::Global;
 

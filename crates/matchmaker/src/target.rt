@@ -3,10 +3,10 @@ ghost use Rattle.std.specs.Prelude.{◌≡◌, ◌++◌, codes, true, option_map
 ghost use Rattle.std.specs.Cow.{cow_str_bytes};
 ghost use Rattle.std.specs.Str.{is_utf8};
 ghost use Rattle.percent_encoding.specs.Percent.{percent_decode};
-ghost use Rattle.hub_model.specs.Requests.{asked_of, behind_front, first_asked, method_word, name_of, named_by, up_to};
+ghost use Rattle.hub_model.specs.Requests.{asked_of, after_prefix, first_asked, method_word, name_of, named_by, up_to};
 ghost use Rattle.matchmaker.specs.Gives.{has_escape};
 
-use crate::text::{behind_front, up_to};
+use crate::text::{after_prefix, up_to};
 use hub_model::Method;
 use lists::Memory;
 use percent_encoding::{DecodeError, percent_decode};
@@ -88,9 +88,9 @@ pub fn name_from(alloc: Global, raw: &[u8]) -> Result<CowStr<'_, Global>, Memory
 
 // What stands behind `/matchmake/METHOD/`, up to the query.
 fn raw_name(method: Method, target: &[u8]) -> Option<&[u8]>
-    ensures { option_map (λ r. r.now) result ≡ behind_front (codes "/matchmake/" ++ (method_word method ++ codes "/")) (up_to 63 target.now) }
+    ensures { option_map (λ r. r.now) result ≡ after_prefix (codes "/matchmake/" ++ (method_word method ++ codes "/")) (up_to 63 target.now) }
 {
-    match behind_front(b"/matchmake/", up_to(b'?', target)) {
+    match after_prefix(b"/matchmake/", up_to(b'?', target)) {
         Some(rest) => behind_word(method, rest),
         None => None,
     }
@@ -98,10 +98,10 @@ fn raw_name(method: Method, target: &[u8]) -> Option<&[u8]>
 
 // What stands behind `METHOD/`.
 fn behind_word(method: Method, text: &[u8]) -> Option<&[u8]>
-    ensures { option_map (λ r. r.now) result ≡ behind_front (method_word method ++ codes "/") text.now }
+    ensures { option_map (λ r. r.now) result ≡ after_prefix (method_word method ++ codes "/") text.now }
 {
-    match behind_front(word(method), text) {
-        Some(rest) => behind_front(b"/", rest),
+    match after_prefix(word(method), text) {
+        Some(rest) => after_prefix(b"/", rest),
         None => None,
     }
 }

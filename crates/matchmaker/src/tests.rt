@@ -1,10 +1,10 @@
 use crate::{
-    AskFault, Decision, Listing, Method, Opening, Request, decide, is_id, read_request,
-    read_target, refusal_text, reply_text,
+    AskFault, Decision, Listing, Method, Opening, Request, decide, read_request, read_target,
+    refusal_text, reply_text,
 };
 use lists::{Memory, Seq, Text};
 use room_model::{RoomDef, Texts};
-use schema_model::Id;
+use schema_model::{Id, is_id};
 use std::alloc::{AllocError, Global};
 use std::test::Fail;
 
@@ -111,10 +111,10 @@ fn reads_requests(rt: HostRuntime) -> Result<(), Fail> {
         ("/matchmake/join/none", b"{}", "NoHandler"),
         ("/matchmake/create/Duel", b"", "NoHandler"),
     ];
-    for (target, body, wanted) in rows {
+    for (target, body, expected) in rows {
         assert_eq!(rt;
             asked(rt.alloc(), target, body)?.as_str(),
-            wanted,
+            expected,
             "{target}"
         );
     }
@@ -149,11 +149,11 @@ fn reads_criteria(rt: HostRuntime) -> Result<(), Fail> {
         ("\"\\u0061\\/\\n\"", "Join duel \"a/\\n\" "),
         ("true,\"map\":false", "Join duel true false"),
     ];
-    for (value, wanted) in rows {
+    for (value, expected) in rows {
         let body = format!(in rt.alloc(); "{{\"mode\":{value}}}")?;
         assert_eq!(rt;
             asked(rt.alloc(), "/matchmake/join/duel", body.as_bytes())?.as_str(),
-            wanted,
+            expected,
             "{value}"
         );
     }
@@ -175,11 +175,11 @@ fn nested(alloc: Global, lists: u32) -> Result<String, AllocError> {
 
 #[test]
 fn reads_127_levels(rt: HostRuntime) -> Result<(), Fail> {
-    for (lists, wanted) in [(126, "Join duel  "), (127, "BadPayload")] {
+    for (lists, expected) in [(126, "Join duel  "), (127, "BadPayload")] {
         let body = nested(rt.alloc(), lists)?;
         assert_eq!(rt;
             asked(rt.alloc(), "/matchmake/join/duel", body.as_bytes())?.as_str(),
-            wanted
+            expected
         );
     }
     Ok(())
@@ -260,11 +260,11 @@ fn decides_by_a_definition(rt: HostRuntime) -> Result<(), Fail> {
         (Method::Create, "1", "make 1"),
         (Method::Join, "2", "4211 no room meets the criteria"),
     ];
-    for (method, mode, wanted) in rows {
+    for (method, mode, expected) in rows {
         let criteria = texts(rt.alloc(), &[mode])?;
         assert_eq!(rt;
             led(rt.alloc(), method, "duel", criteria, None)?.as_str(),
-            wanted
+            expected
         );
     }
     let rows = [
@@ -272,11 +272,11 @@ fn decides_by_a_definition(rt: HostRuntime) -> Result<(), Fail> {
         (Method::Create, "solo", "make 0"),
         (Method::Join, "none", "4210 no handler"),
     ];
-    for (method, name, wanted) in rows {
+    for (method, name, expected) in rows {
         let criteria = Seq::new(rt.alloc());
         assert_eq!(rt;
             led(rt.alloc(), method, name, criteria, None)?.as_str(),
-            wanted
+            expected
         );
     }
     Ok(())
@@ -315,11 +315,11 @@ fn decides_by_an_id(rt: HostRuntime) -> Result<(), Fail> {
             "4212 room nope not found",
         ),
     ];
-    for (method, id, kept, wanted) in rows {
+    for (method, id, kept, expected) in rows {
         let criteria = Seq::new(rt.alloc());
         assert_eq!(rt;
             led(rt.alloc(), method, id, criteria, kept)?.as_str(),
-            wanted
+            expected
         );
     }
     Ok(())
@@ -373,8 +373,8 @@ fn reads_openings(rt: HostRuntime) {
         ("/process 1/room00001?sessionId=session01", None),
         ("", None),
     ];
-    for (target, wanted) in rows {
-        assert_eq!(rt; read_target(target), wanted, "{target}");
+    for (target, expected) in rows {
+        assert_eq!(rt; read_target(target), expected, "{target}");
     }
 }
 

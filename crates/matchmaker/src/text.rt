@@ -1,14 +1,14 @@
 //! Parts of texts by their bytes.
 ghost use Rattle.std.specs.Prelude.{◌≡◌, ◌≤◌, ◌==◌, option_map, length};
 ghost use Rattle.std.specs.List.{position_or_len};
-ghost use Rattle.hub_model.specs.Requests.{behind_front, up_to};
+ghost use Rattle.hub_model.specs.Requests.{after_prefix, up_to};
 ghost use Rattle.hub_model.specs.Openings.{behind};
 
-/// What is behind a front, where a text begins with it.
-pub fn behind_front<'a>(front: &[u8], text: &'a [u8]) -> Option<&'a [u8]>
-    ensures { option_map (λ r. r.now) result ≡ behind_front front.now text.now }
+/// What is behind a prefix, where a text begins with it.
+pub fn after_prefix<'a>(prefix: &[u8], text: &'a [u8]) -> Option<&'a [u8]>
+    ensures { option_map (λ r. r.now) result ≡ after_prefix prefix.now text.now }
 {
-    text.strip_prefix(front)
+    text.strip_prefix(prefix)
 }
 
 /// A text up to the first byte that is this one.

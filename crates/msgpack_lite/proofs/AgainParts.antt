@@ -21,18 +21,18 @@ use Rattle.msgpack_lite.proofs.EndLaws.{pack_at-form}
 -- ---- numbers
 
 -- a part of the right length between two lists is read as its number
-part_read : (w : Width) (front part more : List ℕ) → length part ≡ byte_len w → width_at w (front ++ (part ++ more)) (length front) ≡ Ok (from_be_bytes w part, length front + byte_len w)
-part_read w front part more e =
-    let d = drop_at front (part ++ more) (length front) refl in
+part_read : (w : Width) (prefix part more : List ℕ) → length part ≡ byte_len w → width_at w (prefix ++ (part ++ more)) (length prefix) ≡ Ok (from_be_bytes w part, length prefix + byte_len w)
+part_read w prefix part more e =
+    let d = drop_at prefix (part ++ more) (length prefix) refl in
     let t = take_at part more (byte_len w) e in
-    let l : length (front ++ (part ++ more)) ≡ length front + (byte_len w + length more) =
-    omega (arith, length-append front (part ++ more), length-append part more, e) in
-    let fits : ltb (length (front ++ (part ++ more))) (length front + byte_len w) ≡ false = grind (arith, nat_tests) in
+    let l : length (prefix ++ (part ++ more)) ≡ length prefix + (byte_len w + length more) =
+    omega (arith, length-append prefix (part ++ more), length-append part more, e) in
+    let fits : ltb (length (prefix ++ (part ++ more))) (length prefix + byte_len w) ≡ false = grind (arith, nat_tests) in
     rw (fits, d, t) refl
 
 -- the byte at a place
-pub byte_read : (front more : List ℕ) (b : ℕ) → width_at w8 (front ++ b ∷ more) (length front) ≡ Ok (b, length front + 1)
-byte_read front more b = part_read w8 front (b ∷ []) more refl
+pub byte_read : (prefix more : List ℕ) (b : ℕ) → width_at w8 (prefix ++ b ∷ more) (length prefix) ≡ Ok (b, length prefix + 1)
+byte_read prefix more b = part_read w8 prefix (b ∷ []) more refl
 
 -- a number of a size, behind a first byte
 abbrev IsNumber : Width → ℕ → List ℕ → Type 0
@@ -47,22 +47,22 @@ four n h = (refl, from_be_bytes-to_be_bytes_4 n h)
 eight : (n : ℕ) → n < 2 ^ 64 → IsNumber w64 n (to_be_bytes w64 n)
 eight n h = (refl, from_be_bytes-to_be_bytes_8 n h)
 
-behind_byte : (w : Width) (front part more : List ℕ) (first n : ℕ) → IsNumber w n part → width_at w (front ++ first ∷ (part ++ more)) (length front + 1) ≡ Ok (n, length front + suc (length part))
-behind_byte w front part more first n h =
-    let read = part_read w (front ++ first ∷ []) part more h.0 in
-    let moved = rw (append_assoc front (first ∷ []) (part ++ more), length-append front (first ∷ [])) at read in
+behind_byte : (w : Width) (prefix part more : List ℕ) (first n : ℕ) → IsNumber w n part → width_at w (prefix ++ first ∷ (part ++ more)) (length prefix + 1) ≡ Ok (n, length prefix + suc (length part))
+behind_byte w prefix part more first n h =
+    let read = part_read w (prefix ++ first ∷ []) part more h.0 in
+    let moved = rw (append_assoc prefix (first ∷ []) (part ++ more), length-append prefix (first ∷ [])) at read in
     moved ∙ ap₂ (λ x k. Ok (x, k)) h.1 (omega (arith, h.0))
 
 -- ---- values of a form
 
 -- a value's bytes between two lists are read as it
 abbrev pub IsRead : ℕ → List ℕ → List ℕ → PackData → List ℕ → Type 0
-IsRead levels front more d bytes = pack_at levels (front ++ (bytes ++ more)) (length front) ≡ Ok (d, length front + length bytes)
+IsRead levels prefix more d bytes = pack_at levels (prefix ++ (bytes ++ more)) (length prefix) ≡ Ok (d, length prefix + length bytes)
 
-pub by_form : (levels : ℕ) (front more : List ℕ) (first : ℕ) (f : Form) → form_of first ≡ f → pack_at levels (front ++ first ∷ more) (length front) ≡ value_of_form (inside levels (front ++ first ∷ more)) f (front ++ first ∷ more) (length front)
-by_form levels front more first f h =
-    pack_at-form levels (front ++ first ∷ more) (length front) first (length front + 1) (byte_read front more first)
-    ∙ ap (λ g. value_of_form (inside levels (front ++ first ∷ more)) g (front ++ first ∷ more) (length front)) h
+pub by_form : (levels : ℕ) (prefix more : List ℕ) (first : ℕ) (f : Form) → form_of first ≡ f → pack_at levels (prefix ++ first ∷ more) (length prefix) ≡ value_of_form (inside levels (prefix ++ first ∷ more)) f (prefix ++ first ∷ more) (length prefix)
+by_form levels prefix more first f h =
+    pack_at-form levels (prefix ++ first ∷ more) (length prefix) first (length prefix + 1) (byte_read prefix more first)
+    ∙ ap (λ g. value_of_form (inside levels (prefix ++ first ∷ more)) g (prefix ++ first ∷ more) (length prefix)) h
 
 small_form : (n : ℕ) → n < 128 → form_of n ≡ form.Small (pos n)
 unfolding form_of
@@ -79,20 +79,20 @@ minus_form n h =
     let f : 255 - (255 - n) ≡ n = omega arith in
     rw (a, b, c, d, e, f) refl
 
-tiny : (levels : ℕ) (front more : List ℕ) (n : ℕ) → n < 128 → IsRead levels front more (whole (pos n)) (n ∷ [])
-tiny levels front more n h = by_form levels front more n (form.Small (pos n)) (small_form n h)
+tiny : (levels : ℕ) (prefix more : List ℕ) (n : ℕ) → n < 128 → IsRead levels prefix more (whole (pos n)) (n ∷ [])
+tiny levels prefix more n h = by_form levels prefix more n (form.Small (pos n)) (small_form n h)
 
-minus_tiny : (levels : ℕ) (front more : List ℕ) (n : ℕ) → n < 32 → IsRead levels front more (whole (negsuc n)) ((255 - n) ∷ [])
-minus_tiny levels front more n h = by_form levels front more (255 - n) (form.Small (negsuc n)) (minus_form n h)
+minus_tiny : (levels : ℕ) (prefix more : List ℕ) (n : ℕ) → n < 32 → IsRead levels prefix more (whole (negsuc n)) ((255 - n) ∷ [])
+minus_tiny levels prefix more n h = by_form levels prefix more (255 - n) (form.Small (negsuc n)) (minus_form n h)
 
-unsigned : (size : Size) (levels : ℕ) (front more part : List ℕ) (first n : ℕ) → form_of first ≡ form.Unsigned size → IsNumber (width_of size) n part → IsRead levels front more (whole (pos n)) (first ∷ part)
-unsigned size levels front more part first n h k =
-    by_form levels front (part ++ more) first (form.Unsigned size) h ∙ ap (as_value (λ x. whole (pos x))) (behind_byte (width_of size) front part more first n k)
+unsigned : (size : Size) (levels : ℕ) (prefix more part : List ℕ) (first n : ℕ) → form_of first ≡ form.Unsigned size → IsNumber (width_of size) n part → IsRead levels prefix more (whole (pos n)) (first ∷ part)
+unsigned size levels prefix more part first n h k =
+    by_form levels prefix (part ++ more) first (form.Unsigned size) h ∙ ap (as_value (λ x. whole (pos x))) (behind_byte (width_of size) prefix part more first n k)
 
-signed : (size : Size) (levels : ℕ) (front more part : List ℕ) (first m n : ℕ) → form_of first ≡ form.Signed size → IsNumber (width_of size) m part → cast_signed (width_of size) m ≡ negsuc n → IsRead levels front more (whole (negsuc n)) (first ∷ part)
-signed size levels front more part first m n h k c =
-    by_form levels front (part ++ more) first (form.Signed size) h
-    ∙ (ap (as_value (λ x. whole (cast_signed (width_of size) x))) (behind_byte (width_of size) front part more first m k) ∙ ap (λ z. Ok (whole z, length front + suc (length part))) c)
+signed : (size : Size) (levels : ℕ) (prefix more part : List ℕ) (first m n : ℕ) → form_of first ≡ form.Signed size → IsNumber (width_of size) m part → cast_signed (width_of size) m ≡ negsuc n → IsRead levels prefix more (whole (negsuc n)) (first ∷ part)
+signed size levels prefix more part first m n h k c =
+    by_form levels prefix (part ++ more) first (form.Signed size) h
+    ∙ (ap (as_value (λ x. whole (cast_signed (width_of size) x))) (behind_byte (width_of size) prefix part more first m k) ∙ ap (λ z. Ok (whole z, length prefix + suc (length part))) c)
 
 -- the first bytes that are marks
 marks : (form_of 204 ≡ form.Unsigned One) × (form_of 205 ≡ form.Unsigned Two) × (form_of 206 ≡ form.Unsigned Four) × (form_of 207 ≡ form.Unsigned Eight)
@@ -105,22 +105,22 @@ by_four : {X : Type 0} (P : X → Type 0) (a b c d : Bool) (v w x y z : X) → (
 by_four P true b c d v w x y z p q r s t = p refl
 by_four P false b c d v w x y z p q r s t = by_chain P b c d w x y z q r s t
 
-pub whole_again : (levels : ℕ) (front more : List ℕ) (z : ℤ) → is_whole z ≡ true → IsRead levels front more (whole z) (whole_bytes z)
-whole_again levels front more (pos n) h =
-    by_four (IsRead levels front more (whole (pos n))) (ltb n 128) (ltb n 256) (ltb n 65536) (ltb n 4294967296) _ _ _ _ _
-    (λ e. tiny levels front more n (ltb_below n 128 e))
-    (λ e. unsigned One levels front more (n ∷ []) 204 n marks.0 (refl, refl))
-    (λ e. unsigned Two levels front more (to_be_bytes w16 n) 205 n marks.1 (two n (ltb_below n 65536 e)))
-    (λ e. unsigned Four levels front more (to_be_bytes w32 n) 206 n marks.2 (four n (ltb_below n 4294967296 e)))
-    (unsigned Eight levels front more (to_be_bytes w64 n) 207 n marks.3 (eight n (ltb_below n 18446744073709551616 h)))
-whole_again levels front more (negsuc n) h =
+pub whole_again : (levels : ℕ) (prefix more : List ℕ) (z : ℤ) → is_whole z ≡ true → IsRead levels prefix more (whole z) (whole_bytes z)
+whole_again levels prefix more (pos n) h =
+    by_four (IsRead levels prefix more (whole (pos n))) (ltb n 128) (ltb n 256) (ltb n 65536) (ltb n 4294967296) _ _ _ _ _
+    (λ e. tiny levels prefix more n (ltb_below n 128 e))
+    (λ e. unsigned One levels prefix more (n ∷ []) 204 n marks.0 (refl, refl))
+    (λ e. unsigned Two levels prefix more (to_be_bytes w16 n) 205 n marks.1 (two n (ltb_below n 65536 e)))
+    (λ e. unsigned Four levels prefix more (to_be_bytes w32 n) 206 n marks.2 (four n (ltb_below n 4294967296 e)))
+    (unsigned Eight levels prefix more (to_be_bytes w64 n) 207 n marks.3 (eight n (ltb_below n 18446744073709551616 h)))
+whole_again levels prefix more (negsuc n) h =
     let far : n < 9223372036854775808 = ltb_below n 9223372036854775808 h in
-    by_four (IsRead levels front more (whole (negsuc n))) (ltb n 32) (ltb n 128) (ltb n 32768) (ltb n 2147483648) _ _ _ _ _
-    (λ e. minus_tiny levels front more n (ltb_below n 32 e))
-    (λ e. let b = ltb_below n 128 e in signed One levels front more ((255 - n) ∷ []) 208 (255 - n) n marks.4 (refl, refl) (cast_again w8 n (255 - n) b (omega arith)))
-    (λ e. let b = ltb_below n 32768 e in signed Two levels front more (to_be_bytes w16 (65535 - n)) 209 (65535 - n) n marks.5 (two (65535 - n) (omega arith)) (cast_again w16 n (65535 - n) b (omega arith)))
-    (λ e. let b = ltb_below n 2147483648 e in signed Four levels front more (to_be_bytes w32 (4294967295 - n)) 210 (4294967295 - n) n marks.6 (four (4294967295 - n) (omega arith)) (cast_again w32 n (4294967295 - n) b (omega arith)))
-    (signed Eight levels front more (to_be_bytes w64 (18446744073709551615 - n)) 211 (18446744073709551615 - n) n marks.7 (eight (18446744073709551615 - n) (omega arith)) (cast_again w64 n (18446744073709551615 - n) far (omega arith)))
+    by_four (IsRead levels prefix more (whole (negsuc n))) (ltb n 32) (ltb n 128) (ltb n 32768) (ltb n 2147483648) _ _ _ _ _
+    (λ e. minus_tiny levels prefix more n (ltb_below n 32 e))
+    (λ e. let b = ltb_below n 128 e in signed One levels prefix more ((255 - n) ∷ []) 208 (255 - n) n marks.4 (refl, refl) (cast_again w8 n (255 - n) b (omega arith)))
+    (λ e. let b = ltb_below n 32768 e in signed Two levels prefix more (to_be_bytes w16 (65535 - n)) 209 (65535 - n) n marks.5 (two (65535 - n) (omega arith)) (cast_again w16 n (65535 - n) b (omega arith)))
+    (λ e. let b = ltb_below n 2147483648 e in signed Four levels prefix more (to_be_bytes w32 (4294967295 - n)) 210 (4294967295 - n) n marks.6 (four (4294967295 - n) (omega arith)) (cast_again w32 n (4294967295 - n) b (omega arith)))
+    (signed Eight levels prefix more (to_be_bytes w64 (18446744073709551615 - n)) 211 (18446744073709551615 - n) n marks.7 (eight (18446744073709551615 - n) (omega arith)) (cast_again w64 n (18446744073709551615 - n) far (omega arith)))
 
 -- ---- heads
 
@@ -131,13 +131,13 @@ pub record IsHead (f : Length → Form) (n : ℕ) (head : List ℕ) : Type 0 whe
   pub len : Length
   pub is : head ≡ first ∷ rest
   pub tells : form_of first ≡ f len
-  pub measures : (front more : List ℕ) → length_at len (front ++ (head ++ more)) (length front + 1) ≡ Ok (n, length front + length head)
+  pub measures : (prefix more : List ℕ) → length_at len (prefix ++ (head ++ more)) (length prefix + 1) ≡ Ok (n, length prefix + length head)
 
 told : (f : Length → Form) (n first : ℕ) → form_of first ≡ f (Told n) → IsHead f n (first ∷ [])
-told f n first h = record { first = first; rest = []; len = Told n; is = refl; tells = h; measures = λ front more. refl }
+told f n first h = record { first = first; rest = []; len = Told n; is = refl; tells = h; measures = λ prefix more. refl }
 
 counted : (f : Length → Form) (size : Size) (n first : ℕ) (part : List ℕ) → form_of first ≡ f (Behind size) → IsNumber (width_of size) n part → IsHead f n (first ∷ part)
-counted f size n first part h k = record { first = first; rest = part; len = Behind size; is = refl; tells = h; measures = λ front more. behind_byte (width_of size) front part more first n k }
+counted f size n first part h k = record { first = first; rest = part; len = Behind size; is = refl; tells = h; measures = λ prefix more. behind_byte (width_of size) prefix part more first n k }
 
 head_marks : (form_of 217 ≡ form.Text (Behind One)) × (form_of 218 ≡ form.Text (Behind Two)) × (form_of 219 ≡ form.Text (Behind Four))
     × (form_of 196 ≡ form.Binary (Behind One)) × (form_of 197 ≡ form.Binary (Behind Two)) × (form_of 198 ≡ form.Binary (Behind Four))
@@ -208,36 +208,36 @@ dict_head_is n h =
     (counted form.Map Four n 223 (to_be_bytes w32 n) head_marks.9 (four n h))
 
 -- a value by the form that its head tells
-pub by_head : (f : Length → Form) (n : ℕ) (head : List ℕ) (levels : ℕ) (front more : List ℕ) (h : IsHead f n head)
-    → pack_at levels (front ++ (head ++ more)) (length front) ≡ value_of_form (inside levels (front ++ (head ++ more))) (f h.len) (front ++ (head ++ more)) (length front)
-by_head f n head levels front more h =
-    let go : (x : List ℕ) → x ≡ head → pack_at levels (front ++ (x ++ more)) (length front) ≡ value_of_form (inside levels (front ++ (x ++ more))) (f h.len) (front ++ (x ++ more)) (length front) → pack_at levels (front ++ (head ++ more)) (length front) ≡ value_of_form (inside levels (front ++ (head ++ more))) (f h.len) (front ++ (head ++ more)) (length front)
-    = λ x e k. subst (λ y. pack_at levels (front ++ (y ++ more)) (length front) ≡ value_of_form (inside levels (front ++ (y ++ more))) (f h.len) (front ++ (y ++ more)) (length front)) e k in
-    go (h.first ∷ h.rest) (sym h.is) (by_form levels front (h.rest ++ more) h.first (f h.len) h.tells)
+pub by_head : (f : Length → Form) (n : ℕ) (head : List ℕ) (levels : ℕ) (prefix more : List ℕ) (h : IsHead f n head)
+    → pack_at levels (prefix ++ (head ++ more)) (length prefix) ≡ value_of_form (inside levels (prefix ++ (head ++ more))) (f h.len) (prefix ++ (head ++ more)) (length prefix)
+by_head f n head levels prefix more h =
+    let go : (x : List ℕ) → x ≡ head → pack_at levels (prefix ++ (x ++ more)) (length prefix) ≡ value_of_form (inside levels (prefix ++ (x ++ more))) (f h.len) (prefix ++ (x ++ more)) (length prefix) → pack_at levels (prefix ++ (head ++ more)) (length prefix) ≡ value_of_form (inside levels (prefix ++ (head ++ more))) (f h.len) (prefix ++ (head ++ more)) (length prefix)
+    = λ x e k. subst (λ y. pack_at levels (prefix ++ (y ++ more)) (length prefix) ≡ value_of_form (inside levels (prefix ++ (y ++ more))) (f h.len) (prefix ++ (y ++ more)) (length prefix)) e k in
+    go (h.first ∷ h.rest) (sym h.is) (by_form levels prefix (h.rest ++ more) h.first (f h.len) h.tells)
 
 -- ---- runs
 
-run_there : (front t more : List ℕ) → bytes_at (front ++ (t ++ more)) (length t, length front) ≡ Ok (t, length front + length t)
-run_there front t more =
-    let d = drop_at front (t ++ more) (length front) refl in
+run_there : (prefix t more : List ℕ) → bytes_at (prefix ++ (t ++ more)) (length t, length prefix) ≡ Ok (t, length prefix + length t)
+run_there prefix t more =
+    let d = drop_at prefix (t ++ more) (length prefix) refl in
     let k = take_at t more (length t) refl in
-    let l : length (front ++ (t ++ more)) ≡ length front + (length t + length more) = omega (arith, length-append front (t ++ more), length-append t more) in
-    let fits : ltb (length (front ++ (t ++ more))) (length front + length t) ≡ false = grind (arith, nat_tests) in
+    let l : length (prefix ++ (t ++ more)) ≡ length prefix + (length t + length more) = omega (arith, length-append prefix (t ++ more), length-append t more) in
+    let fits : ltb (length (prefix ++ (t ++ more))) (length prefix + length t) ≡ false = grind (arith, nat_tests) in
     rw (fits, d, k) refl
 
-pub run_again : (f : Length → Form) (t head front more : List ℕ) (h : IsHead f (length t) head) → run_at h.len (front ++ ((head ++ t) ++ more)) (length front + 1) ≡ Ok (t, length front + length (head ++ t))
+pub run_again : (f : Length → Form) (t head prefix more : List ℕ) (h : IsHead f (length t) head) → run_at h.len (prefix ++ ((head ++ t) ++ more)) (length prefix + 1) ≡ Ok (t, length prefix + length (head ++ t))
 unfolding run_at
-run_again f t head front more h =
-    let shape : front ++ ((head ++ t) ++ more) ≡ front ++ (head ++ (t ++ more)) = ap (λ x. front ++ x) (append_assoc head t more) in
-    let measured : length_at h.len (front ++ ((head ++ t) ++ more)) (length front + 1) ≡ Ok (length t, length front + length head) = ap (λ b. length_at h.len b (length front + 1)) shape ∙ h.measures front (t ++ more) in
-    let shape' : front ++ ((head ++ t) ++ more) ≡ (front ++ head) ++ (t ++ more) = shape ∙ sym (append_assoc front head (t ++ more)) in
-    let there : bytes_at (front ++ ((head ++ t) ++ more)) (length t, length front + length head) ≡ Ok (t, length front + length (head ++ t)) =
-    ap₂ (λ b k. bytes_at b (length t, k)) shape' (sym (length-append front head))
-    ∙ (run_there (front ++ head) t more ∙ ap (λ k. Ok (t, k)) (omega (arith, length-append front head, length-append head t))) in
-    ap (λ r. r >>= bytes_at (front ++ ((head ++ t) ++ more))) measured ∙ there
+run_again f t head prefix more h =
+    let shape : prefix ++ ((head ++ t) ++ more) ≡ prefix ++ (head ++ (t ++ more)) = ap (λ x. prefix ++ x) (append_assoc head t more) in
+    let measured : length_at h.len (prefix ++ ((head ++ t) ++ more)) (length prefix + 1) ≡ Ok (length t, length prefix + length head) = ap (λ b. length_at h.len b (length prefix + 1)) shape ∙ h.measures prefix (t ++ more) in
+    let shape' : prefix ++ ((head ++ t) ++ more) ≡ (prefix ++ head) ++ (t ++ more) = shape ∙ sym (append_assoc prefix head (t ++ more)) in
+    let there : bytes_at (prefix ++ ((head ++ t) ++ more)) (length t, length prefix + length head) ≡ Ok (t, length prefix + length (head ++ t)) =
+    ap₂ (λ b k. bytes_at b (length t, k)) shape' (sym (length-append prefix head))
+    ∙ (run_there (prefix ++ head) t more ∙ ap (λ k. Ok (t, k)) (omega (arith, length-append prefix head, length-append head t))) in
+    ap (λ r. r >>= bytes_at (prefix ++ ((head ++ t) ++ more))) measured ∙ there
 
-pub text_again : (t front more : List ℕ) (h : IsHead form.Text (length t) (text_head (length t))) → is_utf8 t ≡ true → text_at h.len (front ++ (text_bytes t ++ more)) (length front) ≡ Ok (t, length front + length (text_bytes t))
+pub text_again : (t prefix more : List ℕ) (h : IsHead form.Text (length t) (text_head (length t))) → is_utf8 t ≡ true → text_at h.len (prefix ++ (text_bytes t ++ more)) (length prefix) ≡ Ok (t, length prefix + length (text_bytes t))
 unfolding text_at
-text_again t front more h good =
-    let run = run_again form.Text t (text_head (length t)) front more h in
-    ap (λ r. r >>= as_text (length front)) run ∙ rw good refl
+text_again t prefix more h good =
+    let run = run_again form.Text t (text_head (length t)) prefix more h in
+    ap (λ r. r >>= as_text (length prefix)) run ∙ rw good refl

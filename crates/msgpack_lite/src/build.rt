@@ -58,8 +58,8 @@ fn value_by_form(
     }
 }
 
-// For how many values there is room at first: no more than there are bytes.
-fn room_for(count: u64, left: usize) -> usize
+// For how many values memory is taken at first: no more than there are bytes.
+fn capacity_for(count: u64, left: usize) -> usize
     ensures { result ≤ left }
 {
     count.min(left as u64) as usize
@@ -78,7 +78,7 @@ fn items_from(
     ensures value { Gives items_data result (items_at (pack_at levels bytes.now) count start) }
     ensures within { IfOk result (λ read. read.1 ≤ length bytes.now) }
 {
-    let mut found = Packs::with_room(alloc, room_for(count, bytes.len() - start))?;
+    let mut found = Packs::with_capacity(alloc, capacity_for(count, bytes.len() - start))?;
     let mut at = start;
     'items: for _ in 0..count {
         let (item, next) = value_at(alloc, bytes, at, levels)?;
@@ -101,7 +101,7 @@ fn members_from(
     ensures value { Gives members_data result (members_at (pack_at levels bytes.now) bytes.now count start) }
     ensures within { IfOk result (λ read. read.1 ≤ length bytes.now) }
 {
-    let mut found = PackPairs::with_room(alloc, room_for(count, bytes.len() - start))?;
+    let mut found = PackPairs::with_capacity(alloc, capacity_for(count, bytes.len() - start))?;
     let mut at = start;
     'members: for _ in 0..count {
         let (name, behind) = key_at(bytes, at)?;

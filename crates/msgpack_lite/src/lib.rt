@@ -2,14 +2,14 @@
 //! extensions; keys of maps are texts.
 #![tactic(auto)]
 
-pub mod build;
-pub mod ends;
-pub mod fits;
-pub mod form;
-pub mod number;
-pub mod put;
-pub mod reading;
-pub mod writing;
+mod build;
+mod ends;
+mod fits;
+mod form;
+mod number;
+mod put;
+mod reading;
+mod writing;
 
 pub use fits::has_bytes;
 pub use frame_model::{Pack, PackFault, PackPairs, Packs};

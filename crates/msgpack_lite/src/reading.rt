@@ -23,7 +23,7 @@ pub fn check(bytes: &[u8]) -> Result<(), PackFault>
     }
 }
 
-/// The value that bytes are, or the first fault; want of memory is told only of bytes that are one. It is no deeper than
+/// The value that bytes are, or the first fault; out of memory is told only of bytes that are one. It is no deeper than
 /// `MOST_LEVELS`, and has no more values, keys and bytes of texts in it than there are bytes.
 pub fn read(alloc: Global, bytes: &[u8]) -> Result<Pack, PackFault>
     ensures value { GivesPack result (read_pack bytes.now) }

@@ -10,8 +10,8 @@ use Rattle.schema_model.specs.declared.place.Home.{Home}
 use Rattle.state_model.specs.declared.row.Row.{Row}
 use Rattle.state_model.specs.declared.row.Row.TheVariants.{Struct, Map, Array, Set}
 use Rattle.state_model.specs.declared.row.RowEntry.{RowEntry}
-use Rattle.state_model.specs.declared.place.Wanted.{Wanted}
-use Rattle.state_model.specs.Places.{empty_collection, item_wants, same_kind}
+use Rattle.state_model.specs.declared.place.Expected.{Expected}
+use Rattle.state_model.specs.Places.{empty_collection, item_expects, same_kind}
 use Rattle.state_model.specs.Sound.{has_kind}
 use Rattle.state_model.specs.Rows.{row_at}
 use Rattle.wire_model.specs.declared.op.RowKind.{RowKind}
@@ -26,18 +26,18 @@ then_same (Ok x) f g same = same x
 then_same (Err e) f g same = refl
 
 -- an operation on items looks at whether the holder is a map
-item_same : (schema : Schema) (known : List RowEntry) (a b : Row) (bytes : List ℕ) (at code : ℕ) (w : Option Wanted) (n : ℕ × ℕ) → is_map a ≡ is_map b
+item_same : (schema : Schema) (known : List RowEntry) (a b : Row) (bytes : List ℕ) (at code : ℕ) (w : Option Expected) (n : ℕ × ℕ) → is_map a ≡ is_map b
     → item_step schema known a bytes at code w n ≡ item_step schema known b bytes at code w n
 item_same schema known a b bytes at code None n e = refl
-item_same schema known a b bytes at code (Some wanted) n e = rw e refl
+item_same schema known a b bytes at code (Some expected) n e = rw e refl
 
 -- an operation on a collection looks at its shape
 collection_same : (schema : Schema) (known : List RowEntry) (a b : Row) (home : Home) (bytes : List ℕ) (at code : ℕ) → is_map a ≡ is_map b → is_array_row a ≡ is_array_row b
     → collection_step schema known a home bytes at code ≡ collection_step schema known b home bytes at code
 unfolding collection_step
 collection_same schema known a b home bytes at code map array =
-    let items = then_same (count_at bytes (at + 1)) (item_step schema known a bytes at code (item_wants schema home)) (item_step schema known b bytes at code (item_wants schema home))
-    (λ n. item_same schema known a b bytes at code (item_wants schema home) n map) in
+    let items = then_same (count_at bytes (at + 1)) (item_step schema known a bytes at code (item_expects schema home)) (item_step schema known b bytes at code (item_expects schema home))
+    (λ n. item_same schema known a b bytes at code (item_expects schema home) n map) in
     rw (items, array) refl
 
 -- rows of one kind have one shape

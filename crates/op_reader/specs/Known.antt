@@ -43,7 +43,7 @@ abbrev pub MayWant : {A : Type 0} → Result A OpFault → Type 0
 MayWant (Ok x) = Unit {0}
 MayWant (Err f) = f ≡ Memory
 
--- an answer is what the bytes spell, or want of memory
+-- an answer is what the bytes spell, or out of memory
 abbrev pub Reads : {A : Type 0} → Result A OpFault → Result A OpFault → Type 0
 Reads (Err Memory) there = MayWant there
 Reads found there = found ≡ there

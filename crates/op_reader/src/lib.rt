@@ -1,7 +1,7 @@
 //! Operations read from state bytes.
 #![tactic(auto)]
 
-pub mod known;
+mod known;
 mod put;
 mod read;
 mod read_items;

@@ -1,6 +1,6 @@
 //! Operations read from state bytes, one at a time.
 ghost use Rattle.std.specs.Prelude.{◌≡◌, ◌<◌, ◌≤◌, ◌-◌, ◌%◌, length, Some, IsTrue};
-ghost use Rattle.state_model.specs.Places.{field_wants};
+ghost use Rattle.state_model.specs.Places.{field_expects};
 ghost use Rattle.wire_model.specs.Grammar.{step_at, switch_at, field_step, keyed_value, is_item_code};
 ghost use Rattle.op_reader.specs.Known.{Reads, is_holder};
 ghost use Rattle.op_reader.specs.Puts.{code_of};
@@ -12,7 +12,7 @@ use crate::read_items::read_item_op;
 use crate::read_value::{read_count, read_value};
 use crate::source::Source;
 use schema_model::{RefNum, Schema, TypeNum};
-use state_model::{Wanted, field_wants};
+use state_model::{Expected, field_expects};
 use std::alloc::Global;
 use wire_model::codes::SWITCH;
 use wire_model::{Op, OpFault, OpKey, RowKind, Step};
@@ -101,11 +101,11 @@ fn read_field_op<K: Known>(
     byte: u8,
 ) -> Result<(Step, usize), OpFault>
     requires { at < length from.now.bytes.now }
-    ensures { Reads result (field_step from.now.schema.now (K.rows from.now.known.now) from.now.bytes.now at (byte - byte % 64) (byte % 64) (field_wants from.now.schema.now class (byte % 64))) }
+    ensures { Reads result (field_step from.now.schema.now (K.rows from.now.known.now) from.now.bytes.now at (byte - byte % 64) (byte % 64) (field_expects from.now.schema.now class (byte % 64))) }
 {
     let index = byte % 64;
-    match field_wants(from.schema, class, index) {
-        Some(wanted) => read_field(from, at, byte - index, index, wanted),
+    match field_expects(from.schema, class, index) {
+        Some(expected) => read_field(from, at, byte - index, index, expected),
         None => Err(OpFault::UnknownField(at)),
     }
 }
@@ -116,15 +116,15 @@ fn read_field<K: Known>(
     at: usize,
     code: u8,
     index: u8,
-    wanted: Wanted,
+    expected: Expected,
 ) -> Result<(Step, usize), OpFault>
     requires place { at < length from.now.bytes.now }
     requires code { IsTrue (is_item_code code) }
-    ensures { Reads result (field_step from.now.schema.now (K.rows from.now.known.now) from.now.bytes.now at code index (Some wanted)) }
+    ensures { Reads result (field_step from.now.schema.now (K.rows from.now.known.now) from.now.bytes.now at code index (Some expected)) }
 {
     let key = OpKey::Field(index);
     match Put::of(code) {
-        Some(put) => read_put(from, at + 1, put, key, wanted),
+        Some(put) => read_put(from, at + 1, put, key, expected),
         None => Ok((Step::Do(Op::Delete(key)), at + 1)),
     }
 }
@@ -136,11 +136,11 @@ pub fn read_put<K: Known>(
     at: usize,
     put: Put,
     key: OpKey,
-    wanted: Wanted,
+    expected: Expected,
 ) -> Result<(Step, usize), OpFault>
     requires { at ≤ length from.now.bytes.now }
-    ensures { Reads result (keyed_value from.now.schema.now (K.rows from.now.known.now) from.now.bytes.now at (code_of put) key wanted) }
+    ensures { Reads result (keyed_value from.now.schema.now (K.rows from.now.known.now) from.now.bytes.now at (code_of put) key expected) }
 {
-    let (value, next) = read_value(from, put.adds(), at, wanted)?;
+    let (value, next) = read_value(from, put.adds(), at, expected)?;
     Ok((Step::Do(put.op(key, value)), next))
 }

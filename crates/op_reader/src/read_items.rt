@@ -1,6 +1,6 @@
 //! Operations on collections, read from state bytes.
 ghost use Rattle.std.specs.Prelude.{◌≡◌, ◌+◌, ◌<◌, ◌≤◌, ◌&&◌, [], length, IsTrue};
-ghost use Rattle.state_model.specs.Places.{item_wants, holds_instances};
+ghost use Rattle.state_model.specs.Places.{item_expects, holds_instances};
 ghost use Rattle.wire_model.specs.Grammar.{collection_step, count_at, item_step, keyed_value, named_value, by_ref_value, is_item_code, is_map, is_array_row};
 ghost use Rattle.schema_model.specs.Reading.{◌>>=◌ as ◌then◌};
 ghost use Rattle.wire_model.specs.declared.op.OpKey.TheVariants.{Named};
@@ -16,7 +16,7 @@ use crate::source::Source;
 use lists::{Memory, Text};
 use scalar_codec::get_text;
 use schema_model::{Home, Item, RefNum, Schema, Shape};
-use state_model::{Wanted, item_wants};
+use state_model::{Expected, item_expects};
 use wire_model::codes::{
     ADD, ADD_BY_REF, CLEAR, DELETE, DELETE_AND_ADD, DELETE_AND_MOVE, DELETE_BY_REF, MOVE,
     MOVE_AND_ADD, REPLACE, REVERSE,
@@ -55,13 +55,13 @@ fn read_numbered<K: Known>(
     requires place { at < length from.now.bytes.now }
     requires code { IsTrue (is_item_code code) }
     ensures { Reads result (count_at from.now.bytes.now (at + 1)
-        then item_step from.now.schema.now (K.rows from.now.known.now) (home_row from.now.schema.now home.now) from.now.bytes.now at code (item_wants from.now.schema.now home.now)) }
+        then item_step from.now.schema.now (K.rows from.now.known.now) (home_row from.now.schema.now home.now) from.now.bytes.now at code (item_expects from.now.schema.now home.now)) }
 {
     let (number, next) = read_count(from.bytes, at + 1)?;
-    match item_wants(from.schema, *home) {
-        Some(wanted) => {
+    match item_expects(from.schema, *home) {
+        Some(expected) => {
             let named = is_map(from.schema, home);
-            read_item(from, next, code, number, wanted, named)
+            read_item(from, next, code, number, expected, named)
         }
         None => Err(OpFault::UnknownOp(at, code)),
     }
@@ -73,19 +73,19 @@ fn read_item<K: Known>(
     at: usize,
     code: u8,
     number: u32,
-    wanted: Wanted,
+    expected: Expected,
     named: bool,
 ) -> Result<(Step, usize), OpFault>
     requires place { at ≤ length from.now.bytes.now }
     requires code { IsTrue (is_item_code code) }
-    ensures { Reads result (item_after from.now.schema.now (K.rows from.now.known.now) named from.now.bytes.now code wanted (number, at)) }
+    ensures { Reads result (item_after from.now.schema.now (K.rows from.now.known.now) named from.now.bytes.now code expected (number, at)) }
 {
     match Put::of(code) {
         Some(put) => {
             if named && put.adds() {
-                read_named(from, at, put, number, wanted)
+                read_named(from, at, put, number, expected)
             } else {
-                read_put(from, at, put, OpKey::Item(number), wanted)
+                read_put(from, at, put, OpKey::Item(number), expected)
             }
         }
         None => Ok((Step::Do(Op::Delete(OpKey::Item(number))), at)),
@@ -99,13 +99,13 @@ fn read_named<K: Known>(
     at: usize,
     put: Put,
     number: u32,
-    wanted: Wanted,
+    expected: Expected,
 ) -> Result<(Step, usize), OpFault>
     requires { at ≤ length from.now.bytes.now }
-    ensures { Reads result (named_value from.now.schema.now (K.rows from.now.known.now) from.now.bytes.now at (code_of put) number wanted) }
+    ensures { Reads result (named_value from.now.schema.now (K.rows from.now.known.now) from.now.bytes.now at (code_of put) number expected) }
 {
     match get_text(from.bytes, at) {
-        Ok((key, next)) => read_keyed(from, next, put, number, key, wanted),
+        Ok((key, next)) => read_keyed(from, next, put, number, key, expected),
         Err(fault) => Err(OpFault::Scalar(fault)),
     }
 }
@@ -118,12 +118,12 @@ fn read_keyed<K: Known>(
     put: Put,
     number: u32,
     key: &str,
-    wanted: Wanted,
+    expected: Expected,
 ) -> Result<(Step, usize), OpFault>
     requires { at ≤ length from.now.bytes.now }
-    ensures { Reads result (keyed_value from.now.schema.now (K.rows from.now.known.now) from.now.bytes.now at (code_of put) (Named number key.now) wanted) }
+    ensures { Reads result (keyed_value from.now.schema.now (K.rows from.now.known.now) from.now.bytes.now at (code_of put) (Named number key.now) expected) }
 {
-    let (value, end) = read_value(from, put.adds(), at, wanted)?;
+    let (value, end) = read_value(from, put.adds(), at, expected)?;
     match Text::from_text(from.alloc, key) {
         Ok(key) => Ok((Step::Do(put.op(OpKey::Named(number, key), value)), end)),
         Err(Memory) => Err(OpFault::Memory),
@@ -160,8 +160,8 @@ fn read_add_by_ref<K: Known>(
         return Err(OpFault::UnknownOp(at, ADD_BY_REF));
     }
     let (_, next) = read_count(from.bytes, at + 1)?;
-    match item_wants(from.schema, *home) {
-        Some(wanted) => read_pushed(from, next, wanted),
+    match item_expects(from.schema, *home) {
+        Some(expected) => read_pushed(from, next, expected),
         None => Err(OpFault::UnknownOp(at, ADD_BY_REF)),
     }
 }
@@ -171,12 +171,12 @@ fn read_add_by_ref<K: Known>(
 fn read_pushed<K: Known>(
     from: &Source<'_, K>,
     at: usize,
-    wanted: Wanted,
+    expected: Expected,
 ) -> Result<(Step, usize), OpFault>
     requires { at ≤ length from.now.bytes.now }
-    ensures { Reads result (by_ref_value from.now.schema.now (K.rows from.now.known.now) from.now.bytes.now at wanted) }
+    ensures { Reads result (by_ref_value from.now.schema.now (K.rows from.now.known.now) from.now.bytes.now at expected) }
 {
-    let (value, end) = read_value(from, true, at, wanted)?;
+    let (value, end) = read_value(from, true, at, expected)?;
     Ok((Step::Do(Op::AddByRef(value)), end))
 }
 

@@ -6,14 +6,14 @@ ghost use Rattle.wire_model.specs.Grammar.{as_op_fault, count_at, value_at, inst
 ghost use Rattle.schema_model.specs.Classes.{is_kind_of};
 ghost use Rattle.std.specs.Option.{option_map_or};
 ghost use Rattle.state_model.specs.Places.{same_home};
-ghost use Rattle.state_model.specs.declared.place.Wanted.TheVariants.{Item as AnItem};
+ghost use Rattle.state_model.specs.declared.place.Expected.TheVariants.{Item as AnItem};
 ghost use Rattle.op_reader.specs.Known.{Reads, class_of_kind, home_of_kind};
 
 use crate::known::Known;
 use crate::source::Source;
 use scalar_codec::{ReadFault, ScalarFault, get_number, get_scalar};
 use schema_model::{Home, Item, RefNum, ScalarKind, Schema, TypeNum};
-use state_model::Wanted;
+use state_model::Expected;
 use std::alloc::Global;
 use wire_model::codes::TYPE_MARK;
 use wire_model::{OpFault, OpValue, RowKind};
@@ -49,14 +49,14 @@ pub fn read_value<K: Known>(
     from: &Source<'_, K>,
     adds: bool,
     at: usize,
-    wanted: Wanted,
+    expected: Expected,
 ) -> Result<(OpValue, usize), OpFault>
     requires { at ≤ length from.now.bytes.now }
-    ensures { Reads result (value_at from.now.schema.now (K.rows from.now.known.now) adds from.now.bytes.now at wanted) }
+    ensures { Reads result (value_at from.now.schema.now (K.rows from.now.known.now) adds from.now.bytes.now at expected) }
 {
-    match wanted {
-        Wanted::Item(item) => read_item(from, adds, at, item),
-        Wanted::Collection(home) => read_collection(from, home, at),
+    match expected {
+        Expected::Item(item) => read_item(from, adds, at, item),
+        Expected::Collection(home) => read_collection(from, home, at),
     }
 }
 

@@ -4,16 +4,16 @@ use Rattle.std.proofs.lemmas.List.{take-append-drop, drop-drop}
 use Rattle.std.proofs.Math.Seq.{take-append_seam}
 use Rattle.outside.specs.Streams.{Hands}
 
--- the bytes from a place on are those that are copied to the front of a buffer, and the bytes after them
+-- the bytes from a place on are those that are copied to the prefix of a buffer, and the bytes after them
 front_and_rest :
     (items after : List ℕ) (at count : ℕ) → count ≤ length (drop at items) →
     drop at items ≡ take count (take count (drop at items) ++ after) ++ drop (at + count) items
 front_and_rest items after at count within =
-    let front : List ℕ = take count (drop at items) in
-    let long : length front ≡ count = omega (arith, length-take count (drop at items)) in
-    let front_is : take count (front ++ after) ≡ front =
-    subst (λ (n : ℕ). take n (front ++ after) ≡ front) long (take-append_seam front after) in
-    rw (front_is, ← drop-drop count at items) (sym (take-append-drop count (drop at items)))
+    let prefix : List ℕ = take count (drop at items) in
+    let long : length prefix ≡ count = omega (arith, length-take count (drop at items)) in
+    let prefix_is : take count (prefix ++ after) ≡ prefix =
+    subst (λ (n : ℕ). take n (prefix ++ after) ≡ prefix) long (take-append_seam prefix after) in
+    rw (prefix_is, ← drop-drop count at items) (sym (take-append-drop count (drop at items)))
 
 -- bytes that are copied from a place on, as many as there are, fit and are allowed, are handed over
 pub copied_hands :

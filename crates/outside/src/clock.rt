@@ -5,7 +5,7 @@ ghost use Rattle.outside.specs.Spent.{first_of, after_first};
 pub trait Clock {
     ghost use Rattle.std.specs.Prelude.{ℕ, List, Option};
 
-    /// The moments that it is still to give, where it tells them. It gives the last one again.
+    /// The moments that it is still to give, where it shows them. It gives the last one again.
     ghost coming: { Self → Option (List ℕ) };
 
     /// The present moment, in milliseconds.

@@ -4,27 +4,27 @@
 #![tactic(auto)]
 
 mod call_plan;
-pub mod clock;
-pub mod fault;
-pub mod ids;
+mod clock;
+mod fault;
+mod ids;
 mod last_again;
-pub mod list_clock;
-pub mod list_ids;
-pub mod mem_sink;
-pub mod mem_source;
-pub mod mem_wire;
-pub mod reading;
-pub mod sink;
-pub mod source;
-pub mod std_clock;
-pub mod std_sink;
-pub mod std_source;
+mod list_clock;
+mod list_ids;
+mod mem_sink;
+mod mem_source;
+mod mem_wire;
+mod reading;
+mod sink;
+mod source;
+mod std_clock;
+mod std_sink;
+mod std_source;
 #[cfg(test)]
 mod stream_tests;
 #[cfg(test)]
 mod tests;
-pub mod wire;
-pub mod writing;
+mod wire;
+mod writing;
 
 pub use clock::Clock;
 pub use fault::{Failed, WireFault};

@@ -2,7 +2,7 @@ ghost use Rattle.std.specs.Prelude.{◌≡◌, ◌++◌, ◌<◌, [], length, ta
 ghost use Rattle.outside.specs.Calls.{no_calls, next_fails, after_call};
 ghost use Rattle.outside.specs.Faults.{HasCause};
 ghost use Rattle.outside.specs.MemStreams.{taken_count};
-ghost use Rattle.outside.specs.Streams.{TakesFront, count_of};
+ghost use Rattle.outside.specs.Streams.{TakesPrefix, count_of};
 
 use crate::call_plan::CallPlan;
 use crate::fault::Failed;
@@ -77,10 +77,10 @@ impl Sink for MemSink {
         ensures count { IfOk result (λ count. count ≡ taken_count self.old (length from.now)) }
         ensures some { IfOk result (λ count. 0 < length from.now → 0 < count) }
         ensures taken { self.new.taken ≡ self.old.taken ++ take (count_of result) from.now }
-        ensures part { OnErr result (TakesFront (Some self.old.taken) (Some self.new.taken) from.now) }
+        ensures part { OnErr result (TakesPrefix (Some self.old.taken) (Some self.new.taken) from.now) }
         ensures cause { HasCause self.old.calls.faults self.new.calls.faults result }
 
-        // Want of memory is a failure that no number tells.
+        // Out of memory is a failure that no number tells.
         ensures fails { IsTrue (next_fails self.old.calls) → IsErr result }
         ensures calls { self.new.calls ≡ after_call self.old.calls (is_err result) }
         ensures piece { self.new.piece ≡ self.old.piece }

@@ -85,14 +85,14 @@ impl Source for MemSource {
             return Err(Failed);
         }
         let most = self.piece;
-        let count = copy_front(self.left(), into, most);
+        let count = copy_prefix(self.left(), into, most);
         self.at += count;
         Ok(count)
     }
 }
 
 // Copies as many bytes as both have, and at most so many, and answers how many.
-fn copy_front(from: &[u8], into: &mut [u8], most: usize) -> usize
+fn copy_prefix(from: &[u8], into: &mut [u8], most: usize) -> usize
     ensures count { result ≡ min most (min (length into.old) (length from.now)) }
     ensures bytes { into.new ≡ take result from.now ++ drop result into.old }
 {

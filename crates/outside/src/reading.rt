@@ -41,7 +41,7 @@ impl From<AllocError> for ReadFault {
 /// Reads a source up to its end; of one that has more than 16 MiB it reads one byte more than that.
 pub fn read_text<S: Source>(alloc: Global, source: &mut S) -> Result<Vec<u8>, ReadFault>
     ensures all { IfOk result (λ text. length text.items ≤ 2 ^ 24 → ReadsAll (S.left source.old) (S.left source.new) text.items) }
-    ensures front { (bytes : List ℕ) × (length bytes ≤ 2 ^ 24 + 1) × Reads (S.left source.old) (S.left source.new) bytes
+    ensures prefix { (bytes : List ℕ) × (length bytes ≤ 2 ^ 24 + 1) × Reads (S.left source.old) (S.left source.new) bytes
         × IfOk result (λ text. bytes ≡ text.items) }
     ensures later { S.faults source.old ≤ S.faults source.new }
     ensures cause { IsErrOf result fault.Failed → Rose (S.faults source.old) (S.faults source.new) }

@@ -11,10 +11,10 @@ pub trait Source {
     /// How often it has failed.
     ghost faults: { Self → ℕ };
 
-    /// The bytes that it has left, where it tells them.
+    /// The bytes that it has left, where it shows them.
     ghost left: { Self → Option (List ℕ) };
 
-    /// Reads into a front of the buffer, and answers how many bytes it read. 0 bytes into a buffer
+    /// Reads into a prefix of the buffer, and answers how many bytes it read. 0 bytes into a buffer
     /// that isn't empty are the end of the input.
     fn read(&mut self, into: &mut [u8]) -> Result<usize, Failed>
         ensures within { IfOk result (λ count. count ≤ length into.old) }

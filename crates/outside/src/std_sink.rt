@@ -1,5 +1,5 @@
 ghost use Rattle.std.specs.Prelude.{◌≡◌, ◌<◌, ◌≤◌, [], length, take, IfSome, None};
-ghost use Rattle.outside.specs.Streams.{Takes, TakesFront};
+ghost use Rattle.outside.specs.Streams.{Takes, TakesPrefix};
 
 use crate::fault::Failed;
 use crate::sink::Sink;
@@ -10,7 +10,7 @@ use std::marker::Model;
 const TRIES: u32 = 1000;
 
 /// A sink over a writer of std, as `std::io::writer(&rt)`. Each write is flushed; where only the flush
-/// fails, the call has failed though its bytes may have gone. It tells of its bytes what the writer tells.
+/// fails, the call has failed though its bytes may have gone. It shows of its bytes what the writer shows.
 #[derive(Drop)]
 pub struct StdSink<W> {
     writer: W,
@@ -62,7 +62,7 @@ fn write_through<W: Write>(writer: &mut W, from: &[u8]) -> Option<usize>
     ensures within { IfSome result (λ count. count ≤ length from.now) }
     ensures some { IfSome result (λ count. 0 < length from.now → 0 < count) }
     ensures taken { IfSome result (λ count. Takes (W.contents writer.old) (W.contents writer.new) (take count from.now)) }
-    ensures part { result ≡ None → TakesFront (W.contents writer.old) (W.contents writer.new) from.now }
+    ensures part { result ≡ None → TakesPrefix (W.contents writer.old) (W.contents writer.new) from.now }
 {
     let count = write_some(writer, from)?;
     if count == 0 && !from.is_empty() {

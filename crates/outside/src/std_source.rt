@@ -10,7 +10,7 @@ use std::marker::Model;
 // How often a read that a signal interrupted is tried.
 const TRIES: u32 = 1000;
 
-/// A source over a reader of std, as `rt.reader()`. It tells of its bytes what the reader tells.
+/// A source over a reader of std, as `rt.reader()`. It shows of its bytes what the reader shows.
 #[derive(Drop)]
 pub struct StdSource<R> {
     reader: R,

@@ -41,10 +41,10 @@ pub trait Wire {
     /// How often it has failed.
     ghost faults: { Self → ℕ };
 
-    /// What is still to happen, where it tells it.
+    /// What is still to happen, where it shows it.
     ghost coming: { Self → Option (List Happening) };
 
-    /// What it was given to carry, where it tells it.
+    /// What it was given to carry, where it shows it.
     ghost carried: { Self → Option (List WireOut) };
 
     /// What happens next; `now` is the present moment in milliseconds.

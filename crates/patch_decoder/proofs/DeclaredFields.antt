@@ -16,9 +16,9 @@ use Rattle.schema_model.specs.Classes.{Schema, Declared, inherited, fields_from,
 use Rattle.schema_model.proofs.FieldTables.{declared_by, no_fields, own_part, inherited_part, height_falls, height}
 use Rattle.state_model.specs.declared.row.Row.{Row}
 use Rattle.state_model.specs.declared.row.Row.TheVariants.{Map, Array, Set}
-use Rattle.state_model.specs.declared.place.Wanted.{Wanted}
-use Rattle.state_model.specs.declared.place.Wanted.TheVariants.{Item as AnItem, Collection as ACollection}
-use Rattle.state_model.specs.Places.{wanted_by, field_wants, item_wants, collection_of, empty_collection}
+use Rattle.state_model.specs.declared.place.Expected.{Expected}
+use Rattle.state_model.specs.declared.place.Expected.TheVariants.{Item as AnItem, Collection as ACollection}
+use Rattle.state_model.specs.Places.{expected_by, field_expects, item_expects, collection_of, empty_collection}
 use Rattle.state_model.specs.Sound.{has_kind}
 use Rattle.state_model.specs.Rows.{root_alone}
 use Rattle.patch_decoder.specs.Decoders.{AreKnown}
@@ -39,9 +39,9 @@ kept_parts s h =
     let early = parents_earlier 0 s.classes in
     let wide = list_all (λ (fs : List Declared). nat_le (length fs) 63) (fields_from [] s.classes) in
     let most = and_parts (few && root && early && are_ranged s) wide h in
-    let front = and_parts (few && root && early) (are_ranged s) most.0 in
-    let first = and_parts (few && root) early front.0 in
-    ((and_parts few root first.0).1, first.1, front.1)
+    let prefix = and_parts (few && root && early) (are_ranged s) most.0 in
+    let first = and_parts (few && root) early prefix.0 in
+    ((and_parts few root first.0).1, first.1, prefix.1)
 
 -- the root alone is known
 pub root_known : (s : Schema) → is_kept s ≡ true → AreKnown s (root_alone s)
@@ -104,8 +104,8 @@ declared_at (suc fuel) s (Some n) index d early ranged h there =
 
 -- ---- what places hold
 
--- what is wanted is of the schema
-abbrev pub IsOf : Schema → Wanted → Type 0
+-- what is expected is of the schema
+abbrev pub IsOf : Schema → Expected → Type 0
 IsOf s (AnItem (item.Scalar k)) = Unit {0}
 IsOf s (AnItem (item.Class c)) = nat_lt c (length s.classes) ≡ true
 IsOf s (ACollection home) = has_kind s (new_collection s (Some (ACollection home))) ≡ true
@@ -123,26 +123,26 @@ home_is_of s home r is (shape.Array i) h = let same : Array home [] ≡ r = cc i
 home_is_of s home r is (shape.Set i) h = let same : Set home [] ≡ r = cc in rw (is, ← same, is, ← same) (same_kind_self (Set home []))
 
 -- what a field of a shape holds is of the schema
-shape_is_of : (s : Schema) (home : Home) (f : FieldDecl) (sh : Shape) → f.shape ≡ sh → home_field s home ≡ Some f → item_in_range (length s.classes) (item_of sh) ≡ true → IsOf s (wanted_by sh home)
+shape_is_of : (s : Schema) (home : Home) (f : FieldDecl) (sh : Shape) → f.shape ≡ sh → home_field s home ≡ Some f → item_in_range (length s.classes) (item_of sh) ≡ true → IsOf s (expected_by sh home)
 shape_is_of s home f (shape.One i) is at h = item_is_of s i h
 shape_is_of s home f (shape.Map i) is at h = home_is_of s home (Map home []) (ap (option_and_then (λ (f : FieldDecl). collection_of home f.shape)) at ∙ ap (collection_of home) is) (shape.Map i) refl
 shape_is_of s home f (shape.Array i) is at h = home_is_of s home (Array home []) (ap (option_and_then (λ (f : FieldDecl). collection_of home f.shape)) at ∙ ap (collection_of home) is) (shape.Array i) refl
 shape_is_of s home f (shape.Set i) is at h = home_is_of s home (Set home []) (ap (option_and_then (λ (f : FieldDecl). collection_of home f.shape)) at ∙ ap (collection_of home) is) (shape.Set i) refl
 
--- what a field wants is of the schema
-pub field_is_of : (s : Schema) (class index : ℕ) (w : Wanted) → is_kept s ≡ true → field_wants s class index ≡ Some w → IsOf s w
+-- what a field expects is of the schema
+pub field_is_of : (s : Schema) (class index : ℕ) (w : Expected) → is_kept s ≡ true → field_expects s class index ≡ Some w → IsOf s w
 field_is_of s class index w kept h =
     let parts = kept_parts s kept in
-    let go : (o : Option Declared) → slice_get (fields_of s class) index ≡ o → option_map (λ (d : Declared). wanted_by d.field.shape (record { class = d.class; field = index })) o ≡ Some w → IsOf s w = elim [
+    let go : (o : Option Declared) → slice_get (fields_of s class) index ≡ o → option_map (λ (d : Declared). expected_by d.field.shape (record { class = d.class; field = index })) o ≡ Some w → IsOf s w = elim [
       | None ↦ λ at e. absurd (cc)
       | Some d ↦ λ at e.
           let is = declared_at (suc (suc class)) s (Some class) index d parts.1 parts.2 (omega arith) at in
-          let same : wanted_by d.field.shape (record { class = d.class; field = index }) ≡ w = cc in
+          let same : expected_by d.field.shape (record { class = d.class; field = index }) ≡ w = cc in
           subst (λ w. IsOf s w) same (shape_is_of s (record { class = d.class; field = index }) d.field d.field.shape refl is.home is.ranged)
     ] in go (slice_get (fields_of s class) index) refl h
 
 -- so is what the items of a collection are
-pub items_are_of : (s : Schema) (home : Home) (w : Wanted) → is_kept s ≡ true → item_wants s home ≡ Some w → IsOf s w
+pub items_are_of : (s : Schema) (home : Home) (w : Expected) → is_kept s ≡ true → item_expects s home ≡ Some w → IsOf s w
 items_are_of s home w kept h =
     let parts = kept_parts s kept in
     let go : (o : Option Declared) → slice_get (fields_of s home.class) home.field ≡ o → option_map (λ (f : FieldDecl). AnItem (item_of f.shape)) (option_and_then (own_field home.class) o) ≡ Some w → IsOf s w = elim [

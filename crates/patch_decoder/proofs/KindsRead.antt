@@ -10,9 +10,9 @@ use Rattle.state_model.specs.declared.row.Row.{Row}
 use Rattle.state_model.specs.declared.row.Row.TheVariants.{Struct, Map, Array, Set}
 use Rattle.state_model.specs.declared.row.RowEntry.{RowEntry}
 use Rattle.state_model.specs.Rows.{row_at, emptied, kinds_of}
-use Rattle.state_model.specs.declared.place.Wanted.{Wanted}
-use Rattle.state_model.specs.declared.place.Wanted.TheVariants.{Item as AnItem, Collection as ACollection}
-use Rattle.state_model.specs.Places.{field_wants, item_wants}
+use Rattle.state_model.specs.declared.place.Expected.{Expected}
+use Rattle.state_model.specs.declared.place.Expected.TheVariants.{Item as AnItem, Collection as ACollection}
+use Rattle.state_model.specs.Places.{field_expects, item_expects}
 use Rattle.wire_model.specs.declared.op.OpKey.{OpKey}
 use Rattle.wire_model.specs.Grammar.{as_op_fault, count_at, collection_value, check_instance, class_of_number, mark_fits, marked_value, instance_value, link_value, value_at, keyed_value, field_step, named_value, is_map, is_array_row, item_step, by_ref_value, ref_step, collection_step, holder_step, turn_to, switch_at, known_step, step_at}
 use Rattle.op_reader.proofs.HolderKinds.{then_same}
@@ -64,13 +64,13 @@ unfolding instance_value
 instance_same schema class adds bytes at n o = rw (check_same schema class adds at o, marked_same schema class bytes at n o) refl
 
 -- a link
-link_same : (schema : Schema) (known : List RowEntry) (adds : Bool) (bytes : List ℕ) (at : ℕ) (w : Wanted) (n : ℕ × ℕ) → link_value schema (kinds_of known) adds bytes at w n ≡ link_value schema known adds bytes at w n
+link_same : (schema : Schema) (known : List RowEntry) (adds : Bool) (bytes : List ℕ) (at : ℕ) (w : Expected) (n : ℕ × ℕ) → link_value schema (kinds_of known) adds bytes at w n ≡ link_value schema known adds bytes at w n
 link_same schema known adds bytes at (AnItem (item.Class class)) n = ap (instance_value schema class adds bytes at n) (row_at-kinds_of known n.0) ∙ instance_same schema class adds bytes at n (row_at known n.0)
 link_same schema known adds bytes at (AnItem (item.Scalar kind)) n = refl
 link_same schema known adds bytes at (ACollection home) n = ap (collection_value home at n) (row_at-kinds_of known n.0) ∙ collection_same home at n (row_at known n.0)
 
 -- any value
-value_same : (schema : Schema) (known : List RowEntry) (adds : Bool) (bytes : List ℕ) (at : ℕ) (w : Wanted) → value_at schema (kinds_of known) adds bytes at w ≡ value_at schema known adds bytes at w
+value_same : (schema : Schema) (known : List RowEntry) (adds : Bool) (bytes : List ℕ) (at : ℕ) (w : Expected) → value_at schema (kinds_of known) adds bytes at w ≡ value_at schema known adds bytes at w
 unfolding value_at
 value_same schema known adds bytes at (AnItem (item.Scalar kind)) = refl
 value_same schema known adds bytes at (AnItem (item.Class class)) = then_same (count_at bytes at) _ _ (λ n. link_same schema known adds bytes at (AnItem (item.Class class)) n)
@@ -79,33 +79,33 @@ value_same schema known adds bytes at (ACollection home) = then_same (count_at b
 -- ---- operations
 
 -- a value under a key
-keyed_same : (schema : Schema) (known : List RowEntry) (bytes : List ℕ) (at code : ℕ) (key : OpKey) (w : Wanted) → keyed_value schema (kinds_of known) bytes at code key w ≡ keyed_value schema known bytes at code key w
+keyed_same : (schema : Schema) (known : List RowEntry) (bytes : List ℕ) (at code : ℕ) (key : OpKey) (w : Expected) → keyed_value schema (kinds_of known) bytes at code key w ≡ keyed_value schema known bytes at code key w
 unfolding keyed_value
 keyed_same schema known bytes at code key w = rw (value_same schema known _ bytes at w) refl
 
 -- an operation on a field
-field_same : (schema : Schema) (known : List RowEntry) (bytes : List ℕ) (at code index : ℕ) (w : Option Wanted) → field_step schema (kinds_of known) bytes at code index w ≡ field_step schema known bytes at code index w
+field_same : (schema : Schema) (known : List RowEntry) (bytes : List ℕ) (at code index : ℕ) (w : Option Expected) → field_step schema (kinds_of known) bytes at code index w ≡ field_step schema known bytes at code index w
 field_same schema known bytes at code index None = refl
 field_same schema known bytes at code index (Some w) = rw (keyed_same schema known bytes (at + 1) code _ w) refl
 
 -- a new item of a map
-named_same : (schema : Schema) (known : List RowEntry) (bytes : List ℕ) (at code n : ℕ) (w : Wanted) → named_value schema (kinds_of known) bytes at code n w ≡ named_value schema known bytes at code n w
+named_same : (schema : Schema) (known : List RowEntry) (bytes : List ℕ) (at code n : ℕ) (w : Expected) → named_value schema (kinds_of known) bytes at code n w ≡ named_value schema known bytes at code n w
 unfolding named_value
 named_same schema known bytes at code n w = then_same (as_op_fault (text_at bytes at)) _ _ (λ key. keyed_same schema known bytes key.1 code _ w)
 
 -- an operation on an item
-items_same : (schema : Schema) (known : List RowEntry) (a b : Row) (bytes : List ℕ) (at code : ℕ) (w : Option Wanted) (n : ℕ × ℕ) → is_map a ≡ is_map b →
+items_same : (schema : Schema) (known : List RowEntry) (a b : Row) (bytes : List ℕ) (at code : ℕ) (w : Option Expected) (n : ℕ × ℕ) → is_map a ≡ is_map b →
     item_step schema (kinds_of known) a bytes at code w n ≡ item_step schema known b bytes at code w n
 items_same schema known a b bytes at code None n map = refl
 items_same schema known a b bytes at code (Some w) n map = rw (map, named_same schema known bytes n.1 code n.0 w, keyed_same schema known bytes n.1 code _ w) refl
 
 -- an instance put by reference
-by_ref_same : (schema : Schema) (known : List RowEntry) (bytes : List ℕ) (at : ℕ) (w : Wanted) → by_ref_value schema (kinds_of known) bytes at w ≡ by_ref_value schema known bytes at w
+by_ref_same : (schema : Schema) (known : List RowEntry) (bytes : List ℕ) (at : ℕ) (w : Expected) → by_ref_value schema (kinds_of known) bytes at w ≡ by_ref_value schema known bytes at w
 unfolding by_ref_value
 by_ref_same schema known bytes at w = rw (value_same schema known true bytes at w) refl
 
 -- an operation by reference
-refs_same : (schema : Schema) (known : List RowEntry) (bytes : List ℕ) (at code : ℕ) (w : Option Wanted) (n : ℕ × ℕ) → ref_step schema (kinds_of known) bytes at code w n ≡ ref_step schema known bytes at code w n
+refs_same : (schema : Schema) (known : List RowEntry) (bytes : List ℕ) (at code : ℕ) (w : Option Expected) (n : ℕ × ℕ) → ref_step schema (kinds_of known) bytes at code w n ≡ ref_step schema known bytes at code w n
 refs_same schema known bytes at code None n = refl
 refs_same schema known bytes at code (Some w) n = rw (by_ref_same schema known bytes n.1 w) refl
 
@@ -114,15 +114,15 @@ shape_same : (schema : Schema) (known : List RowEntry) (a b : Row) (home : Home)
     collection_step schema (kinds_of known) a home bytes at code ≡ collection_step schema known b home bytes at code
 unfolding collection_step
 shape_same schema known a b home bytes at code map array =
-    let items = then_same (count_at bytes (at + 1)) (item_step schema (kinds_of known) a bytes at code (item_wants schema home)) (item_step schema known b bytes at code (item_wants schema home))
-    (λ n. items_same schema known a b bytes at code (item_wants schema home) n map) in
-    let refs = then_same (count_at bytes (at + 1)) (ref_step schema (kinds_of known) bytes at code (item_wants schema home)) (ref_step schema known bytes at code (item_wants schema home))
-    (λ n. refs_same schema known bytes at code (item_wants schema home) n) in
+    let items = then_same (count_at bytes (at + 1)) (item_step schema (kinds_of known) a bytes at code (item_expects schema home)) (item_step schema known b bytes at code (item_expects schema home))
+    (λ n. items_same schema known a b bytes at code (item_expects schema home) n map) in
+    let refs = then_same (count_at bytes (at + 1)) (ref_step schema (kinds_of known) bytes at code (item_expects schema home)) (ref_step schema known bytes at code (item_expects schema home))
+    (λ n. refs_same schema known bytes at code (item_expects schema home) n) in
     rw (items, refs, array) refl
 
 -- an operation on a holder, by its kind
 holder_same : (schema : Schema) (known : List RowEntry) (r : Row) (bytes : List ℕ) (at byte : ℕ) → holder_step schema (kinds_of known) (emptied r) bytes at byte ≡ holder_step schema known r bytes at byte
-holder_same schema known (Struct class fields) bytes at byte = field_same schema known bytes at (byte - byte % 64) (byte % 64) (field_wants schema class (byte % 64))
+holder_same schema known (Struct class fields) bytes at byte = field_same schema known bytes at (byte - byte % 64) (byte % 64) (field_expects schema class (byte % 64))
 holder_same schema known (Map home items) bytes at byte = shape_same schema known (Map home []) (Map home items) home bytes at byte refl refl
 holder_same schema known (Array home values) bytes at byte = shape_same schema known (Array home []) (Array home values) home bytes at byte refl refl
 holder_same schema known (Set home items) bytes at byte = shape_same schema known (Set home []) (Set home items) home bytes at byte refl refl

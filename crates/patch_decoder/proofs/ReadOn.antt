@@ -15,9 +15,9 @@ use Rattle.state_model.specs.declared.row.Row.{Row}
 use Rattle.state_model.specs.declared.row.Row.TheVariants.{Struct, Map, Array, Set}
 use Rattle.state_model.specs.declared.row.RowEntry.{RowEntry}
 use Rattle.state_model.specs.Rows.{row_at}
-use Rattle.state_model.specs.declared.place.Wanted.{Wanted}
-use Rattle.state_model.specs.declared.place.Wanted.TheVariants.{Item as AnItem, Collection as ACollection}
-use Rattle.state_model.specs.Places.{field_wants, item_wants}
+use Rattle.state_model.specs.declared.place.Expected.{Expected}
+use Rattle.state_model.specs.declared.place.Expected.TheVariants.{Item as AnItem, Collection as ACollection}
+use Rattle.state_model.specs.Places.{field_expects, item_expects}
 use Rattle.state_model.specs.Sound.{is_collection_of}
 use Rattle.wire_model.specs.declared.op.OpKey.{OpKey}
 use Rattle.wire_model.specs.declared.op.Step.{Step}
@@ -176,7 +176,7 @@ coll_past low home at n None h = h
 coll_past low home at n (Some r) h = either low _ _ (is_collection_of home (Some r)) h tt
 
 -- any value
-value_past : (low : ℕ) (schema : Schema) (known : List RowEntry) (adds : Bool) (bytes : List ℕ) (at : ℕ) (w : Wanted) → low ≤ at → EndsPast low (value_at schema known adds bytes at w)
+value_past : (low : ℕ) (schema : Schema) (known : List RowEntry) (adds : Bool) (bytes : List ℕ) (at : ℕ) (w : Expected) → low ≤ at → EndsPast low (value_at schema known adds bytes at w)
 unfolding value_at
 value_past low schema known adds bytes at (AnItem (item.Scalar k)) h = carried_past low k (read_scalar bytes at k) (scalar_past low bytes at k h)
 value_past low schema known adds bytes at (AnItem (item.Class class)) h =
@@ -186,34 +186,34 @@ value_past low schema known adds bytes at (ACollection home) h = behind low (cou
 -- ---- operations
 
 -- a value under a key
-keyed_past : (low : ℕ) (schema : Schema) (known : List RowEntry) (bytes : List ℕ) (at code : ℕ) (key : OpKey) (w : Wanted) → low ≤ at → EndsPast low (keyed_value schema known bytes at code key w)
+keyed_past : (low : ℕ) (schema : Schema) (known : List RowEntry) (bytes : List ℕ) (at code : ℕ) (key : OpKey) (w : Expected) → low ≤ at → EndsPast low (keyed_value schema known bytes at code key w)
 unfolding keyed_value
 keyed_past low schema known bytes at code key w h = behind low (value_at schema known (has_add_bit code) bytes at w) _ (value_past low schema known (has_add_bit code) bytes at w h) (λ v p. p)
 
 -- an operation on a field
-field_past : (low : ℕ) (schema : Schema) (known : List RowEntry) (bytes : List ℕ) (at code index : ℕ) (w : Option Wanted) → low ≤ at + 1 → EndsPast low (field_step schema known bytes at code index w)
+field_past : (low : ℕ) (schema : Schema) (known : List RowEntry) (bytes : List ℕ) (at code index : ℕ) (w : Option Expected) → low ≤ at + 1 → EndsPast low (field_step schema known bytes at code index w)
 field_past low schema known bytes at code index None h = tt
 field_past low schema known bytes at code index (Some w) h = either low _ _ (code == 64) h (keyed_past low schema known bytes (at + 1) code _ w h)
 
 -- a new item of a map
-named_past : (low : ℕ) (schema : Schema) (known : List RowEntry) (bytes : List ℕ) (at code n : ℕ) (w : Wanted) → low ≤ at → EndsPast low (named_value schema known bytes at code n w)
+named_past : (low : ℕ) (schema : Schema) (known : List RowEntry) (bytes : List ℕ) (at code n : ℕ) (w : Expected) → low ≤ at → EndsPast low (named_value schema known bytes at code n w)
 unfolding named_value
 named_past low schema known bytes at code n w h =
     behind low (as_op_fault (text_at bytes at)) _ (fault_past low (text_at bytes at) (text_past low bytes at h)) (λ key p. keyed_past low schema known bytes key.1 code _ w p)
 
 -- an operation on an item
-item_past : (low : ℕ) (schema : Schema) (known : List RowEntry) (holder : Row) (bytes : List ℕ) (at code : ℕ) (w : Option Wanted) (n : ℕ × ℕ) → low ≤ n.1 → EndsPast low (item_step schema known holder bytes at code w n)
+item_past : (low : ℕ) (schema : Schema) (known : List RowEntry) (holder : Row) (bytes : List ℕ) (at code : ℕ) (w : Option Expected) (n : ℕ × ℕ) → low ≤ n.1 → EndsPast low (item_step schema known holder bytes at code w n)
 item_past low schema known holder bytes at code None n h = tt
 item_past low schema known holder bytes at code (Some w) n h =
     either low _ _ (code == 64) h (either low _ _ (is_map holder && has_add_bit code) (named_past low schema known bytes n.1 code n.0 w h) (keyed_past low schema known bytes n.1 code _ w h))
 
 -- an instance put by reference
-by_ref_past : (low : ℕ) (schema : Schema) (known : List RowEntry) (bytes : List ℕ) (at : ℕ) (w : Wanted) → low ≤ at → EndsPast low (by_ref_value schema known bytes at w)
+by_ref_past : (low : ℕ) (schema : Schema) (known : List RowEntry) (bytes : List ℕ) (at : ℕ) (w : Expected) → low ≤ at → EndsPast low (by_ref_value schema known bytes at w)
 unfolding by_ref_value
 by_ref_past low schema known bytes at w h = behind low (value_at schema known true bytes at w) _ (value_past low schema known true bytes at w h) (λ v p. p)
 
 -- an operation by reference
-ref_past : (low : ℕ) (schema : Schema) (known : List RowEntry) (bytes : List ℕ) (at code : ℕ) (w : Option Wanted) (n : ℕ × ℕ) → low ≤ n.1 → EndsPast low (ref_step schema known bytes at code w n)
+ref_past : (low : ℕ) (schema : Schema) (known : List RowEntry) (bytes : List ℕ) (at code : ℕ) (w : Option Expected) (n : ℕ × ℕ) → low ≤ n.1 → EndsPast low (ref_step schema known bytes at code w n)
 ref_past low schema known bytes at code None n h = tt
 ref_past low schema known bytes at code (Some w) n h = either low _ _ (code == 33) h (by_ref_past low schema known bytes n.1 w h)
 
@@ -223,13 +223,13 @@ unfolding collection_step
 collection_past low schema known holder home bytes at code h =
     let count = count_past low bytes (at + 1) h in
     either low _ _ (code == 10) h (either low _ _ (is_unsupported code) tt
-    (either low _ _ (is_item_code code) (behind low (count_at bytes (at + 1)) _ count (λ n p. item_past low schema known holder bytes at code (item_wants schema home) n p))
-    (either low _ _ (is_ref_code schema holder home code) (behind low (count_at bytes (at + 1)) _ count (λ n p. ref_past low schema known bytes at code (item_wants schema home) n p)) tt)))
+    (either low _ _ (is_item_code code) (behind low (count_at bytes (at + 1)) _ count (λ n p. item_past low schema known holder bytes at code (item_expects schema home) n p))
+    (either low _ _ (is_ref_code schema holder home code) (behind low (count_at bytes (at + 1)) _ count (λ n p. ref_past low schema known bytes at code (item_expects schema home) n p)) tt)))
 
 -- an operation on a holder
 known_past : (low : ℕ) (schema : Schema) (known : List RowEntry) (bytes : List ℕ) (at byte : ℕ) (o : Option Row) → low ≤ at + 1 → EndsPast low (known_step schema known bytes at byte o)
 known_past low schema known bytes at byte None h = tt
-known_past low schema known bytes at byte (Some (Struct class fields)) h = field_past low schema known bytes at (byte - byte % 64) (byte % 64) (field_wants schema class (byte % 64)) h
+known_past low schema known bytes at byte (Some (Struct class fields)) h = field_past low schema known bytes at (byte - byte % 64) (byte % 64) (field_expects schema class (byte % 64)) h
 known_past low schema known bytes at byte (Some (Map home items)) h = collection_past low schema known (Map home items) home bytes at byte h
 known_past low schema known bytes at byte (Some (Array home values)) h = collection_past low schema known (Array home values) home bytes at byte h
 known_past low schema known bytes at byte (Some (Set home items)) h = collection_past low schema known (Set home items) home bytes at byte h

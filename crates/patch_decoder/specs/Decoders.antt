@@ -8,7 +8,7 @@ use Rattle.state_model.specs.Sound.{has_kind}
 use Rattle.wire_model.specs.declared.fault.OpFault.{OpFault}
 use Rattle.wire_model.specs.declared.fault.OpFault.TheVariants.{Memory}
 
--- a decoder: its rows, and whether it answered want of memory
+-- a decoder: its rows, and whether it answered out of memory
 pub record DecoderState : Type 0 where
   pub schema : Schema
   pub rows : List RowEntry
@@ -19,7 +19,7 @@ pub record AreKnown (schema : Schema) (rows : List RowEntry) : Type 0 where
   pub root : is_live rows 0 ≡ true
   pub kinds : list_all (λ (e : RowEntry). has_kind schema e.row) rows ≡ true
 
--- want of memory, or what the bytes are decoded to
+-- out of memory, or what the bytes are decoded to
 abbrev pub Decodes : {A : Type 0} → Result A OpFault → Result A OpFault → Type 0
 Decodes (Err Memory) there = Unit {0}
 Decodes found there = found ≡ there
@@ -36,6 +36,6 @@ abbrev pub TakesAs : Bool → Result (List RowEntry) OpFault → DecoderState �
 TakesAs true there old new answer = (answer ≡ Err Memory) × (new ≡ old)
 TakesAs false there old new answer = Took there old new answer
 
--- a decoder that answered want of memory answers it for good
+-- a decoder that answered out of memory answers it for good
 abbrev pub Takes : Result (List RowEntry) OpFault → DecoderState → DecoderState → Result (Unit {0}) OpFault → Type 0
 Takes there old new answer = TakesAs old.spent there old new answer

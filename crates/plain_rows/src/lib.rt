@@ -12,7 +12,7 @@ mod reached_rows;
 mod shown;
 mod shown_rows;
 mod view_fields;
-pub mod views;
+mod views;
 
 pub use freed_rows::{freed, freed_of};
 pub use number_set::NumberSet;

@@ -27,7 +27,7 @@ on_ok_err T (Err e) h = tt
 
 -- ---- the answer
 
--- a fault is want of memory, or changes nothing
+-- a fault is out of memory, or changes nothing
 refused_answer : (f : TableFault) (does : Result (State × Option ℕ) TableFault) (old new : TableState) → Answers does old new (Err f) → (f ≡ fault.Memory) ⊎ (new ≡ old)
 refused_answer fault.NoRef does old new h = inr h.1
 refused_answer fault.NoField does old new h = inr h.1

@@ -1,5 +1,5 @@
 mod Mixed
-mod Fronts
+mod Prefixes
 mod ClientLists
 mod Seated
 mod StandsLaws

@@ -1,4 +1,4 @@
--- A list of which a loop has changed the front.
+-- A list of which a loop has changed the prefix.
 use Rattle.std.proofs.Common.{◌≡◌, ℕ, ◌<◌, zero, suc, List, [], ◌∷◌, ◌++◌, map, take, drop, set, length, get_or, refl, ap, arith}
 
 module _ {X : Type 0} (f : X → X) where

@@ -15,7 +15,7 @@ use Rattle.room_core.specs.Costs.{session_cost}
 use Rattle.room_core.specs.Ticks.{ticked_client}
 use Rattle.room_core.specs.Values.{session_of_client}
 
--- the front of a list is done, the rest is as it was: the next one, and what is behind it
+-- the prefix of a list is done, the rest is as it was: the next one, and what is behind it
 module _ {X : Type 0} (xs first : List X) (n : ℕ) (d : X) (long : length xs ≡ length first) (within : n < length first) (rest : drop n xs ≡ drop n first) where
   seam : get_or xs n d ∷ drop (n + 1) xs ≡ get_or first n d ∷ drop (n + 1) first
   seam = sym (drop_more xs n d (omega arith)) ∙ rest ∙ drop_more first n d within

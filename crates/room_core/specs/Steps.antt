@@ -44,12 +44,12 @@ acknowledged_stage Due = Due
 acknowledged_stage Live = Live
 acknowledged_stage Kept = Kept
 
--- what a frame gives that can't be read: want of memory nothing, any other fault the error that answers it
+-- what a frame gives that can't be read: out of memory nothing, any other fault the error that answers it
 abbrev pub UnreadTells : List ℕ → FrameFault → Result (List RoomOut) Memory → Type 0
 UnreadTells session frame.Memory r = IsErr r
 UnreadTells session f r = IfOk r (λ outs. outs ≡ out.Send session unread_frame ∷ [])
 
--- what a fault of a command gives: want of memory nothing, any other its refusal
+-- what a fault of a command gives: out of memory nothing, any other its refusal
 pub record FaultTells (f : TableFault) (r : Result (List RoomOut) Memory) : Type 0 where
   pub memory : f ≡ table.Memory → IsErr r
   pub refusal : (f ≡ table.Memory → ⊥) → IfOk r (λ outs. outs ≡ out.Refused (refusal.Table f) ∷ [])
@@ -82,7 +82,7 @@ abbrev pub refused_outs : Option Refusal → List RoomOut
 refused_outs None = []
 refused_outs (Some f) = out.Refused f ∷ []
 
--- what the answer to an edit refuses; want of memory refuses nothing
+-- what the answer to an edit refuses; out of memory refuses nothing
 abbrev pub Refuses : Result (Unit {0}) EditFault → Result (Option Refusal) Memory → Type 0
 Refuses (Ok done) r = r ≡ Ok None
 Refuses (Err fault.NoRef) r = r ≡ Ok (Some (refusal.Table table.NoRef))

@@ -11,7 +11,7 @@ use Rattle.view_counts.specs.Settled.{View, view_now}
 use Rattle.room_core.specs.declared.client.Client.{Client}
 use Rattle.room_core.specs.declared.parts.Parts.{Parts}
 
--- a room, and whether it answered want of memory: then it answers it for good
+-- a room, and whether it answered out of memory: then it answers it for good
 pub record Held : Type 0 where
   pub room : RoomValue
   pub spent : Bool

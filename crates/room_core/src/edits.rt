@@ -120,7 +120,7 @@ fn made_out(alloc: Global, made: Option<RefNum>) -> Result<RoomOuts, Memory>
     }
 }
 
-// The refusal of a command; want of memory is none.
+// The refusal of a command; out of memory is none.
 fn refused_by(alloc: Global, fault: TableFault) -> Result<RoomOuts, Memory>
     ensures { FaultTells fault result }
 {

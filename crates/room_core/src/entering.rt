@@ -12,7 +12,7 @@ ghost use Rattle.room_core.specs.Values.{room_of};
 use crate::client::Client;
 use crate::frames::join_frame;
 use crate::parts::Parts;
-use lists::{Seq, push_lean};
+use lists::{Seq, push_exact};
 use room_model::{RoomOut, RoomOuts, Seat, SeatFault, Stage};
 use schema_model::{Id, Memory};
 use seat_ledger::SeatLedger;
@@ -38,7 +38,7 @@ impl Parts {
             queue: Seq::new(self.alloc),
             keep: self.def.keep as u32,
         };
-        push_lean(&mut self.clients, client)?;
+        push_exact(&mut self.clients, client)?;
         self.places.reserve(session, lapse).unwrap();
         Ok(())
     }

@@ -5,14 +5,10 @@ ghost use Rattle.frame_model.specs.Frames.{server_bytes};
 ghost use Rattle.frame_model.specs.declared.frame.ServerFrame.TheVariants as server;
 ghost use Rattle.room_model.specs.Room.{join_frame as join_bytes, unread_frame as unread_bytes};
 
-use client_frames::{MsgKind, ServerFrame, write_message, write_raw, write_server};
-use schema_model::{Bytes, Id, Memory, Text};
+use client_frames::{MsgKind, ServerFrame, error_frame, write_message, write_raw, write_server};
+use frame_model::codes::INVALID_PAYLOAD;
+use schema_model::{Bytes, Id, Memory};
 use std::alloc::Global;
-
-// The code and the text of the error that answers a frame that can't be read.
-const INVALID_PAYLOAD: i32 = 4217;
-
-const INVALID_PAYLOAD_TEXT: &str = "invalid payload";
 
 /// The JOIN_ROOM frame with a fresh token.
 pub fn join_frame(alloc: Global, fresh: Id) -> Result<Bytes, Memory>
@@ -30,8 +26,7 @@ pub fn join_frame(alloc: Global, fresh: Id) -> Result<Bytes, Memory>
 pub fn unread_frame(alloc: Global) -> Result<Bytes, Memory>
     ensures { IfOk result (λ bytes. bytes ≡ unread_bytes) }
 {
-    let text = Text::from_text(alloc, INVALID_PAYLOAD_TEXT)?;
-    written(alloc, &ServerFrame::Fault(INVALID_PAYLOAD, text))
+    error_frame(alloc, INVALID_PAYLOAD, "invalid payload")
 }
 
 /// The frame of a full state.

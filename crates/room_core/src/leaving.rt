@@ -19,14 +19,12 @@ use crate::entering::one_out;
 use crate::frames::unread_frame;
 use crate::parts::Parts;
 use client_frames::{ClientFrame, FrameFault, read_client};
+use frame_model::codes::CONSENTED;
 use lists::Seq;
 use room_model::{Refusal, RoomOut, RoomOuts, Stage};
 use schema_model::{Bytes, Id, Memory};
 use std::alloc::Global;
 use view_counts::ViewCounts;
-
-// The code that closes the connection of a client that leaves.
-const CONSENTED: u16 = 4000;
 
 impl Parts {
     /// A frame of a connected session: its acknowledgement, that it leaves, or a message, which is handed on without a look
@@ -169,7 +167,7 @@ impl Parts {
     }
 }
 
-// What answers a frame that can't be read: an error. Want of memory is none.
+// What answers a frame that can't be read: an error. Out of memory is none.
 fn unread(alloc: Global, session: Id, fault: FrameFault) -> Result<RoomOuts, Memory>
     ensures { UnreadTells session fault result }
 {

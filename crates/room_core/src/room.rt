@@ -27,7 +27,7 @@ use steps::Steps;
 use view_counts::ViewCounts;
 use view_members::Members;
 
-/// A room: its state, its places, and its clients. After it answered want of memory it answers it for good.
+/// A room: its state, its places, and its clients. After it answered out of memory it answers it for good.
 #[derive(Drop)]
 pub struct Room {
     spent: bool,
@@ -98,15 +98,15 @@ impl RoomLike for Room {
     ghost use Rattle.room_model.specs.Room.{room_step};
     ghost use Rattle.room_core.specs.Costs.{step_cost};
     ghost use Rattle.room_laws.specs.Ordered.{Ordered};
-    ghost use Rattle.room_laws.proofs.Ordering.{new_ordered, step_ordered, step_tells, place_taken, step_names, kept_named, places_within};
+    ghost use Rattle.room_laws.proofs.Ordering.{new_ordered, step_ordered, step_tells, place_taken, step_names, step_quiet, kept_named, places_within};
 
     ghost room = { λ h. h.room };
 
     ghost is_spent = { λ h. h.spent };
 
-    ghost happens = { room_step };
+    ghost handled = { room_step };
 
-    ghost costs = { λ h e. step_cost h.room e };
+    ghost costs = { step_cost };
 
     ghost Holds = { Ordered };
 
@@ -121,6 +121,8 @@ impl RoomLike for Room {
     ghost names = { step_names };
 
     ghost keepers = { kept_named };
+
+    ghost quiet = { step_quiet };
 
     ghost within = { places_within };
 
@@ -154,7 +156,7 @@ impl RoomLike for Room {
         if self.spent {
             return Err(Memory);
         }
-        let outcome = happen(&mut self.parts, event, steps);
+        let outcome = handle(&mut self.parts, event, steps);
         self.spent = outcome.is_err();
         outcome
     }
@@ -185,7 +187,7 @@ impl RoomLike for Room {
 }
 
 // The step of a room. What an `Err` leaves is in order, and no step is made from it.
-fn happen<L: Ledger>(
+fn handle<L: Ledger>(
     parts: &mut Parts,
     event: &RoomEvent,
     steps: &mut Steps<L>,
@@ -208,13 +210,13 @@ fn happen<L: Ledger>(
         RoomEvent::Frame(session, bytes) => parts.frame(*session, bytes),
         RoomEvent::Lost(session, now) => parts.lose(*session, *now),
         RoomEvent::Moment(now) => parts.lapse(*now),
-        RoomEvent::Act(act) => perform(parts, act, steps),
+        RoomEvent::Act(act) => handle_act(parts, act, steps),
         RoomEvent::Tick => parts.tick(steps),
     }
 }
 
 // An act.
-fn perform<L: Ledger>(
+fn handle_act<L: Ledger>(
     parts: &mut Parts,
     act: &Act,
     steps: &mut Steps<L>,

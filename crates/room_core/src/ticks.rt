@@ -161,7 +161,7 @@ fn tick_one<L: Ledger>(
     }
 }
 
-// A frame in front of others.
+// A frame before others.
 fn in_front(frame: Bytes, others: Frames) -> Result<Frames, Memory>
     ensures { IfOk result (λ frames. frames ≡ frame ∷ others) }
 {

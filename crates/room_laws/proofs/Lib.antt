@@ -10,3 +10,4 @@ pub mod StepFacts
 pub mod RoomObeys
 pub mod SessionNames
 pub mod Ordering
+pub mod QuietSteps

@@ -12,6 +12,8 @@ use Rattle.room_laws.proofs.RoomPlaced.{new_placed, step_placed}
 use Rattle.room_laws.proofs.RoomPlaces.{step_keeps}
 use Rattle.room_laws.proofs.RoomObeys as obeys
 use Rattle.room_laws.proofs.SessionNames as session_names
+use Rattle.room_laws.proofs.QuietSteps as quiet
+use Rattle.room_laws.specs.Quiet.{KeepsPlaces}
 use Rattle.room_laws.specs.Ordered.{Ordered}
 
 pub new_ordered : (schema : Schema) (def : RoomDef) (criteria : List (List ℕ)) → Ordered (new_room schema def criteria)
@@ -34,3 +36,6 @@ step_names r e o may = session_names.step_names r e
 
 pub kept_named : (r : RoomValue) → Ordered r → AreKeptNamed r
 kept_named r o = session_names.kept_named r o.placed
+
+pub step_quiet : (r : RoomValue) (e : RoomEvent) → Ordered r → may_happen r e ≡ true → KeepsPlaces r e (room_step r e)
+step_quiet r e o may = quiet.step_quiet r e

@@ -4,3 +4,4 @@ pub mod Placed
 pub mod StepLaws
 pub mod Ordered
 pub mod Names
+pub mod Quiet

@@ -2,10 +2,10 @@
 //! sessions tell the same, and what its outputs tell of who is connected.
 #![tactic(auto)]
 
-pub mod ledgers;
-pub mod placed;
-pub mod places;
-pub mod steps;
+mod ledgers;
+mod placed;
+mod places;
+mod steps;
 
 pub use ledgers::ledgers_keep;
 pub use placed::rooms_stay_placed;

@@ -14,7 +14,7 @@ use std::alloc::Global;
 use std::sync::ledger::Ledger;
 use steps::Steps;
 
-/// A room. After it answered want of memory it answers it for good.
+/// A room. After it answered out of memory it answers it for good.
 pub trait RoomLike: Sized + Drop {
     ghost use Rattle.std.specs.Prelude.{◌≡◌, ℕ, ◌≤◌, Bool, true, List};
     ghost use Rattle.schema_model.specs.Classes.{Schema};
@@ -26,6 +26,7 @@ pub trait RoomLike: Sized + Drop {
     ghost use Rattle.room_laws.specs.Places.{may_happen};
     ghost use Rattle.room_laws.specs.StepLaws.{StepLaws, connected};
     ghost use Rattle.room_laws.specs.Names.{AreKeptNamed, KeepsNames};
+    ghost use Rattle.room_laws.specs.Quiet.{KeepsPlaces};
 
     /// What it is.
     ghost room: { Self → RoomValue };
@@ -34,10 +35,10 @@ pub trait RoomLike: Sized + Drop {
     ghost is_spent: { Self → Bool };
 
     /// Its step.
-    ghost happens: { RoomValue → RoomEvent → RoomValue × List RoomOut };
+    ghost handled: { RoomValue → RoomEvent → RoomValue × List RoomOut };
 
-    /// How many steps its step takes at most, by what it keeps.
-    ghost costs: { Self → RoomEvent → ℕ };
+    /// How many steps its step takes at most.
+    ghost costs: { RoomValue → RoomEvent → ℕ };
 
     /// What holds of a new room, and after each step.
     ghost Holds: { RoomValue → Type 0 };
@@ -60,12 +61,12 @@ pub trait RoomLike: Sized + Drop {
         steps: &mut Steps<L>,
     ) -> Result<RoomOuts, Memory>
         requires happen { is_spent self.old ≡ false → IsTrue (may_happen (room self.old) event.now) }
-        ensures outs { IfOk result (λ outs. outs ≡ (happens (room self.old) event.now).1) }
-        ensures after { OnOk result (room self.new ≡ (happens (room self.old) event.now).0) }
+        ensures outs { IfOk result (λ outs. outs ≡ (handled (room self.old) event.now).1) }
+        ensures after { OnOk result (room self.new ≡ (handled (room self.old) event.now).0) }
         ensures fresh { OnOk result (is_spent self.new ≡ false) }
         ensures spent { OnErr result (IsTrue (is_spent self.new)) }
         ensures for_good { IsTrue (is_spent self.old) → IsErr result }
-        ensures cost { steps.new ≤ steps.old + costs self.old event.now }
+        ensures cost { steps.new ≤ steps.old + costs (room self.old) event.now }
         ensures worded { IsTrue (is_worded_event event.now) };
 
     /// Whether an act locked it.
@@ -97,19 +98,22 @@ pub trait RoomLike: Sized + Drop {
     ghost begins: { (schema : Schema) (def : RoomDef) (criteria : List (List ℕ)) → Holds (new_room schema def criteria) };
 
     /// So is one after a step.
-    ghost goes_on: { (r : RoomValue) (e : RoomEvent) → Holds r → may_happen r e ≡ true → Holds (happens r e).0 };
+    ghost goes_on: { (r : RoomValue) (e : RoomEvent) → Holds r → may_happen r e ≡ true → Holds (handled r e).0 };
 
     /// A step tells who is connected, and what is given to whom.
-    ghost tells: { (r : RoomValue) (e : RoomEvent) → Holds r → may_happen r e ≡ true → StepLaws r e (happens r e) };
+    ghost tells: { (r : RoomValue) (e : RoomEvent) → Holds r → may_happen r e ≡ true → StepLaws r e (handled r e) };
 
     /// While a session is connected a place is in use.
     ghost seats: { (r : RoomValue) (id : List ℕ) → Holds r → connected r id ≡ true → 1 ≤ in_use r.seats };
 
     /// A step leaves no session but those that the room had and the one that the event reserves.
-    ghost names: { (r : RoomValue) (e : RoomEvent) → Holds r → may_happen r e ≡ true → KeepsNames r e (happens r e).0 };
+    ghost names: { (r : RoomValue) (e : RoomEvent) → Holds r → may_happen r e ≡ true → KeepsNames r e (handled r e).0 };
 
     /// A kept seat is that of a session of the room.
     ghost keepers: { (r : RoomValue) → Holds r → AreKeptNamed r };
+
+    /// An event that is about no place leaves them all, unless it ends a connection.
+    ghost quiet: { (r : RoomValue) (e : RoomEvent) → Holds r → may_happen r e ≡ true → KeepsPlaces r e (handled r e) };
 
     /// No more places are in use than there are.
     ghost within: { (r : RoomValue) → Holds r → in_use r.seats ≤ r.seats.max };

@@ -15,6 +15,7 @@ use Rattle.state_model.specs.Shown.{permitted, shared}
 use Rattle.wire_model.specs.Frame.{state_frame, full_state, has_operation}
 use Rattle.frame_model.specs.Frames.{server_bytes}
 use Rattle.frame_model.specs.Reading.{read_client}
+use Rattle.frame_model.specs.declared.codes.TheConstants.{CONSENTED, INVALID_PAYLOAD}
 use Rattle.frame_model.specs.declared.frame.ServerFrame.TheVariants as server
 use Rattle.frame_model.specs.declared.frame.ClientFrame.{ClientFrame}
 use Rattle.frame_model.specs.declared.frame.ClientFrame.TheVariants as client
@@ -111,7 +112,7 @@ after_enter r session token fresh =
 
 -- the answer to a frame that can't be read
 abbrev pub unread_frame : List ℕ
-unread_frame = server_bytes (server.Fault (pos 4217) (codes "invalid payload"))
+unread_frame = server_bytes (server.Fault (pos INVALID_PAYLOAD) (codes "invalid payload"))
 
 -- an acknowledged session is due its full state; in other stages the acknowledgement has no effect
 abbrev pub acknowledged_at : Stage → Session → Session
@@ -124,7 +125,7 @@ acknowledged s = acknowledged_at s.stage s
 -- what a frame says, or that it can't be read
 abbrev pub after_read : RoomValue → List ℕ → Result ClientFrame FrameFault → RoomValue × List RoomOut
 after_read r session (Ok client.Ack) = (with_sessions r (change_session session acknowledged r.sessions), [])
-after_read r session (Ok client.Leave) = (ended r session, out.Close session 4000 ∷ out.Left session ∷ [])
+after_read r session (Ok client.Leave) = (ended r session, out.Close session CONSENTED ∷ out.Left session ∷ [])
 after_read r session (Ok (client.Msg kind payload)) = (r, out.Message session kind payload ∷ [])
 after_read r session (Ok (client.Raw kind payload)) = (r, out.RawMessage session kind payload ∷ [])
 after_read r session (Err f) = (r, out.Send session unread_frame ∷ [])

@@ -1,12 +1,13 @@
-ghost use Rattle.std.specs.Prelude.{◌≡◌};
+ghost use Rattle.std.specs.Prelude.{◌≡◌, IfOk};
 ghost use Rattle.room_model.specs.Acts.{is_short_kind, may_act};
 
 use crate::limits::{KIND_BOUND, LONGEST_TIME};
 use crate::refusal::Refusal;
 use frame_model::MsgKind;
-use lists::Seq;
+use lists::{Memory, Seq};
 use schema_model::{Bytes, Id, Pair, RefNum};
 use state_model::Command;
+use std::alloc::Global;
 
 /// What a room's owner does to it.
 #[derive(Debug, Drop)]
@@ -39,6 +40,28 @@ impl Act {
             Act::Keep(_, ms) => *ms <= LONGEST_TIME,
             _ => true,
         }
+    }
+
+    /// The same act again.
+    pub fn copy(&self, alloc: Global) -> Result<Act, Memory>
+        ensures { IfOk result (λ a. a ≡ self.now) }
+    {
+        Ok(match self {
+            Act::State(command) => Act::State(command.copy(alloc)?),
+            Act::Send(session, kind, payload) => {
+                Act::Send(*session, kind.copy(alloc)?, payload.copy(alloc)?)
+            }
+            Act::Raw(session, kind, payload) => {
+                Act::Raw(*session, kind.copy(alloc)?, payload.copy(alloc)?)
+            }
+            Act::ToAll(kind, payload) => Act::ToAll(kind.copy(alloc)?, payload.copy(alloc)?),
+            Act::ViewAdd(session, pair) => Act::ViewAdd(*session, *pair),
+            Act::ViewDel(session, pair) => Act::ViewDel(*session, *pair),
+            Act::Kick(session, code) => Act::Kick(*session, *code),
+            Act::Lock => Act::Lock,
+            Act::Unlock => Act::Unlock,
+            Act::Keep(session, ms) => Act::Keep(*session, *ms),
+        })
     }
 }
 

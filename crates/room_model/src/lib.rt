@@ -3,7 +3,7 @@
 
 pub mod definition;
 pub mod event;
-pub mod limits;
+mod limits;
 pub mod refusal;
 pub mod seat;
 

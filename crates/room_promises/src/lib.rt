@@ -1,6 +1,6 @@
 //! The three promises of a room, for every list of events that may happen.
 #![tactic(auto)]
 
-pub mod rooms;
+mod rooms;
 
 pub use rooms::{clients_return, equal_records_equal_bytes, rooms_keep};

@@ -3,8 +3,8 @@ use Rattle.std.proofs.Common.{◌≡◌, ◌≤◌, ◌<◌, ◌^◌, ℕ, Bool,
 use Rattle.std.specs.Prelude.{◌⊎◌, Result, Ok, Err, IfSome, nat_lt}
 use Rattle.outside.specs.Faults.{Rose}
 use Rattle.outside.specs.Reads.{ReadsAll}
-use Rattle.outside.specs.Streams.{Takes, TakesFront}
-use Rattle.outside.proofs.TakeLaws.{whole_front, no_front}
+use Rattle.outside.specs.Streams.{Takes, TakesPrefix}
+use Rattle.outside.proofs.TakeLaws.{whole_prefix, no_prefix}
 use Rattle.life_model.specs.Clients.{Client}
 use Rattle.life_model.specs.declared.client.ClientFault.{ClientFault}
 use Rattle.text_model.specs.declared.schedule.Print.{Print}
@@ -14,7 +14,7 @@ use Rattle.text_model.specs.RowLines.{rows_text}
 use Rattle.text_model.specs.Schedules.{Fault, read_schedule_text, schedule_text}
 use Rattle.text_model.proofs.PrintLaws.{print_is_read, read_is_print}
 use Rattle.text_model.proofs.ScheduleLaws.{schedule_is_read, read_is_schedule}
-use Rattle.room_server.proofs.PlayedLaws.{schedule_keeps}
+use Rattle.room_server.proofs.ReplayedLaws.{schedule_keeps}
 use Rattle.room_server.specs.declared.ending.Ending.{Ending}
 use Rattle.room_server.specs.declared.ending.Ending.TheVariants.{Done, Usage, Refused, ReadFailed, WriteFailed, Memory}
 use Rattle.room_server.specs.declared.output.WriteFault.{WriteFault}
@@ -125,7 +125,7 @@ done_answered (Make seed rounds) text reads a = absurd reads
 as_answer : (a b : Answer) (t0 t1 : Option (List ℕ)) (e : Ending) → b ≡ a → EndsAs a t0 t1 e → EndsAs b t0 t1 e
 as_answer a b t0 t1 e same h = let P : Answer → Type 0 = λ x. EndsAs x t0 t1 e in subst P (sym same) h
 
--- what was to be written was written, or a front of it
+-- what was to be written was written, or a prefix of it
 pub written_ends : {T : Type 0} (whole : Ending) (output : List ℕ) (r : Result T WriteFault) (t0 t1 : Option (List ℕ)) (e : Ending) → (whole ≡ Done) ⊎ (whole ≡ Refused) → Writes t0 t1 output r → e ≡ ended_as r whole
     → EndsAs (record { ending = whole; output = output }) t0 t1 e
 written_ends Done output (Ok x) t0 t1 e ok wrote is = let P : Ending → Type 0 = λ x. EndsAs (done output) t0 t1 x in subst P (sym is) (refl, wrote)
@@ -208,47 +208,47 @@ same_answer task all l1 text read =
       | false ↦ λ test. ap (answer_to task) (read.1 (ltb-false (2 ^ 24) (length text) test)).1
     ] in go (ltb (2 ^ 24) (length text)) refl
 
-front_of_ends : (a : Answer) (t0 t1 : Option (List ℕ)) (e : Ending) → EndsAs a t0 t1 e → TakesFront t0 t1 a.output
-front_of_ends a t0 t1 Done h = whole_front t0 t1 a.output h.1
-front_of_ends a t0 t1 Usage h = whole_front t0 t1 a.output h.1
-front_of_ends a t0 t1 Refused h = whole_front t0 t1 a.output h.1
-front_of_ends a t0 t1 ReadFailed h = whole_front t0 t1 a.output h.1
-front_of_ends a t0 t1 WriteFailed h = h
-front_of_ends a t0 t1 Memory h = h
+prefix_of_ends : (a : Answer) (t0 t1 : Option (List ℕ)) (e : Ending) → EndsAs a t0 t1 e → TakesPrefix t0 t1 a.output
+prefix_of_ends a t0 t1 Done h = whole_prefix t0 t1 a.output h.1
+prefix_of_ends a t0 t1 Usage h = whole_prefix t0 t1 a.output h.1
+prefix_of_ends a t0 t1 Refused h = whole_prefix t0 t1 a.output h.1
+prefix_of_ends a t0 t1 ReadFailed h = whole_prefix t0 t1 a.output h.1
+prefix_of_ends a t0 t1 WriteFailed h = h
+prefix_of_ends a t0 t1 Memory h = h
 
--- the sink took a front of what is called for
-abbrev pub Front : (List ℕ → Answer) → Option (List ℕ) → Option (List ℕ) → Option (List ℕ) → Type 0
-Front answer l0 t0 t1 = (text : List ℕ) × IfSome l0 (λ all. all ≡ text) × TakesFront t0 t1 (answer text).output
+-- the sink took a prefix of what is called for
+abbrev pub Prefix : (List ℕ → Answer) → Option (List ℕ) → Option (List ℕ) → Option (List ℕ) → Type 0
+Prefix answer l0 t0 t1 = (text : List ℕ) × IfSome l0 (λ all. all ≡ text) × TakesPrefix t0 t1 (answer text).output
 
-front_nothing : (answer : List ℕ → Answer) (l0 t0 t1 : Option (List ℕ)) → t1 ≡ t0 → Front answer l0 t0 t1
-front_nothing answer None t0 t1 same = ([], tt, (let P : Option (List ℕ) → Type 0 = λ t. TakesFront t0 t (answer []).output in subst P (sym same) (no_front t0 (answer []).output)))
-front_nothing answer (Some all) t0 t1 same = (all, refl, (let P : Option (List ℕ) → Type 0 = λ t. TakesFront t0 t (answer all).output in subst P (sym same) (no_front t0 (answer all).output)))
+prefix_nothing : (answer : List ℕ → Answer) (l0 t0 t1 : Option (List ℕ)) → t1 ≡ t0 → Prefix answer l0 t0 t1
+prefix_nothing answer None t0 t1 same = ([], tt, (let P : Option (List ℕ) → Type 0 = λ t. TakesPrefix t0 t (answer []).output in subst P (sym same) (no_prefix t0 (answer []).output)))
+prefix_nothing answer (Some all) t0 t1 same = (all, refl, (let P : Option (List ℕ) → Type 0 = λ t. TakesPrefix t0 t (answer all).output in subst P (sym same) (no_prefix t0 (answer all).output)))
 
 -- where the text doesn't matter
-front_alone : (a : Answer) (l0 t0 t1 : Option (List ℕ)) (e : Ending) → EndsAs a t0 t1 e → Front (λ text. a) l0 t0 t1
-front_alone a None t0 t1 e h = ([], tt, front_of_ends a t0 t1 e h)
-front_alone a (Some all) t0 t1 e h = (all, refl, front_of_ends a t0 t1 e h)
+prefix_alone : (a : Answer) (l0 t0 t1 : Option (List ℕ)) (e : Ending) → EndsAs a t0 t1 e → Prefix (λ text. a) l0 t0 t1
+prefix_alone a None t0 t1 e h = ([], tt, prefix_of_ends a t0 t1 e h)
+prefix_alone a (Some all) t0 t1 e h = (all, refl, prefix_of_ends a t0 t1 e h)
 
-front_text : (task : Task) (l0 l1 t0 t1 : Option (List ℕ)) (text : List ℕ) (e : Ending) → ReadsText l0 l1 text → EndsAs (answer_to task text) t0 t1 e → Front (answer_to task) l0 t0 t1
-front_text task None l1 t0 t1 text e read ends = (text, tt, front_of_ends (answer_to task text) t0 t1 e ends)
-front_text task (Some all) l1 t0 t1 text e read ends =
-    (all, refl, front_of_ends (answer_to task all) t0 t1 e (as_answer (answer_to task text) (answer_to task all) t0 t1 e (same_answer task all l1 text read) ends))
+prefix_text : (task : Task) (l0 l1 t0 t1 : Option (List ℕ)) (text : List ℕ) (e : Ending) → ReadsText l0 l1 text → EndsAs (answer_to task text) t0 t1 e → Prefix (answer_to task) l0 t0 t1
+prefix_text task None l1 t0 t1 text e read ends = (text, tt, prefix_of_ends (answer_to task text) t0 t1 e ends)
+prefix_text task (Some all) l1 t0 t1 text e read ends =
+    (all, refl, prefix_of_ends (answer_to task all) t0 t1 e (as_answer (answer_to task text) (answer_to task all) t0 t1 e (same_answer task all l1 text read) ends))
 
-front_read : (task : Task) (l0 l1 t0 t1 : Option (List ℕ)) (e : Ending) → ReadEnds task l0 l1 t0 t1 e → Front (answer_to task) l0 t0 t1
-front_read task l0 l1 t0 t1 Done (text, read, ends) = front_text task l0 l1 t0 t1 text Done read ends
-front_read task l0 l1 t0 t1 Usage (text, read, ends) = front_text task l0 l1 t0 t1 text Usage read ends
-front_read task l0 l1 t0 t1 Refused (text, read, ends) = front_text task l0 l1 t0 t1 text Refused read ends
-front_read task l0 l1 t0 t1 ReadFailed h = front_nothing (answer_to task) l0 t0 t1 h
-front_read task l0 l1 t0 t1 WriteFailed (text, read, ends) = front_text task l0 l1 t0 t1 text WriteFailed read ends
-front_read task l0 l1 t0 t1 Memory (inl h) = front_nothing (answer_to task) l0 t0 t1 h
-front_read task l0 l1 t0 t1 Memory (inr (text, read, ends)) = front_text task l0 l1 t0 t1 text Memory read ends
+prefix_read : (task : Task) (l0 l1 t0 t1 : Option (List ℕ)) (e : Ending) → ReadEnds task l0 l1 t0 t1 e → Prefix (answer_to task) l0 t0 t1
+prefix_read task l0 l1 t0 t1 Done (text, read, ends) = prefix_text task l0 l1 t0 t1 text Done read ends
+prefix_read task l0 l1 t0 t1 Usage (text, read, ends) = prefix_text task l0 l1 t0 t1 text Usage read ends
+prefix_read task l0 l1 t0 t1 Refused (text, read, ends) = prefix_text task l0 l1 t0 t1 text Refused read ends
+prefix_read task l0 l1 t0 t1 ReadFailed h = prefix_nothing (answer_to task) l0 t0 t1 h
+prefix_read task l0 l1 t0 t1 WriteFailed (text, read, ends) = prefix_text task l0 l1 t0 t1 text WriteFailed read ends
+prefix_read task l0 l1 t0 t1 Memory (inl h) = prefix_nothing (answer_to task) l0 t0 t1 h
+prefix_read task l0 l1 t0 t1 Memory (inr (text, read, ends)) = prefix_text task l0 l1 t0 t1 text Memory read ends
 
-pub front_ended : (task : Option Task) (l0 l1 t0 t1 : Option (List ℕ)) (e : Ending) → IsEnded task l0 l1 t0 t1 e → Front (answer_for task) l0 t0 t1
-front_ended None l0 l1 t0 t1 e h = front_alone usage l0 t0 t1 e h
-front_ended (Some Replay) l0 l1 t0 t1 e h = front_read Replay l0 l1 t0 t1 e h
-front_ended (Some (Serve port count)) l0 l1 t0 t1 e h = front_read (Serve port count) l0 l1 t0 t1 e h
-front_ended (Some (View conn)) l0 l1 t0 t1 e h = front_read (View conn) l0 l1 t0 t1 e h
-front_ended (Some (Make seed rounds)) l0 l1 t0 t1 e h = front_alone (make_answer seed rounds) l0 t0 t1 e h
+pub prefix_ended : (task : Option Task) (l0 l1 t0 t1 : Option (List ℕ)) (e : Ending) → IsEnded task l0 l1 t0 t1 e → Prefix (answer_for task) l0 t0 t1
+prefix_ended None l0 l1 t0 t1 e h = prefix_alone usage l0 t0 t1 e h
+prefix_ended (Some Replay) l0 l1 t0 t1 e h = prefix_read Replay l0 l1 t0 t1 e h
+prefix_ended (Some (Serve port count)) l0 l1 t0 t1 e h = prefix_read (Serve port count) l0 l1 t0 t1 e h
+prefix_ended (Some (View conn)) l0 l1 t0 t1 e h = prefix_read (View conn) l0 l1 t0 t1 e h
+prefix_ended (Some (Make seed rounds)) l0 l1 t0 t1 e h = prefix_alone (make_answer seed rounds) l0 t0 t1 e h
 
 -- ---- what each status says
 
@@ -324,9 +324,9 @@ decided task all l1 t0 t1 WriteFailed rf0 rf1 wf0 wf1 h read write quiet = absur
 decided task all l1 t0 t1 Memory rf0 rf1 wf0 wf1 h read write quiet = inr refl
 
 -- the status that an answer has where it was written
-status_is : (e : Ending) (a : Answer) (wanted : Ending) (status : ℕ) → status ≡ status_of e → a.ending ≡ wanted → (e ≡ a.ending) ⊎ (e ≡ Memory) → (status ≡ status_of wanted) ⊎ (status ≡ 7)
-status_is e a wanted status is same (inl h) = inl (is ∙ ap status_of (h ∙ same))
-status_is e a wanted status is same (inr h) = inr (is ∙ ap status_of h)
+status_is : (e : Ending) (a : Answer) (expected : Ending) (status : ℕ) → status ≡ status_of e → a.ending ≡ expected → (e ≡ a.ending) ⊎ (e ≡ Memory) → (status ≡ status_of expected) ⊎ (status ≡ 7)
+status_is e a expected status is same (inl h) = inl (is ∙ ap status_of (h ∙ same))
+status_is e a expected status is same (inr h) = inr (is ∙ ap status_of h)
 
 -- an answer that isn't done is a refusal
 refused_if : (task : Task) (text : List ℕ) → ((answer_to task text).ending ≡ Done → ⊥) → Sort (answer_to task text) → (answer_to task text).ending ≡ Refused

@@ -1,6 +1,6 @@
 pub mod WriteLaws
-pub mod PlayLaws
-pub mod PlayedLaws
+pub mod ReplayLaws
+pub mod ReplayedLaws
 pub mod LoadLaws
 pub mod EndingLaws
 pub mod TaskLaws

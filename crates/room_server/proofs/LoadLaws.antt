@@ -1,15 +1,15 @@
--- The generated schedule can be played.
-use Rattle.std.proofs.Common.{◌≡◌, ◌&&◌, ℕ, zero, suc, ◌+◌, ◌%◌, Bool, true, false, List, [], ◌∷◌, ◌++◌, refl, arith, cond}
-use Rattle.std.specs.Prelude.{◌==◌, ◌/◌}
+-- The generated schedule can be replayed.
+use Rattle.std.proofs.Common.{◌≡◌, ◌&&◌, ℕ, zero, suc, ◌+◌, ◌%◌, Bool, true, false, List, [], ◌∷◌, ◌++◌, refl, cond}
+use Rattle.std.specs.Prelude.{◌==◌}
 use Rattle.std.specs.List.{list_all}
 use Rattle.std.proofs.lemmas.Bool.{and_from}
-use Rattle.std.proofs.lemmas.Bool.Decides.{nat_tests}
 use Rattle.hub_core.specs.Held.{may_take}
 use Rattle.hub_model.specs.declared.event.HubEvent.{HubEvent}
 use Rattle.hub_model.specs.declared.event.HubEvent.TheVariants.{Lost, Tick}
-use Rattle.hub_model.specs.Ids.{is_id, is_id_byte}
-use Rattle.load_maker.specs.Generated.{after_move, after_round, again, conn_before, digit, dropped_or_returned, game_made, generated, gold_given, most_moves, most_players, most_things, player_made, return_id, returned_in, room_id, root_made, round_from, rounds_from, seat_of, session_id, thing_made, thing_moved, things_moved, token_id, up_to}
-use Rattle.room_server.specs.Plays.{CanPlay}
+use Rattle.schema_model.specs.Ids.{is_id}
+use Rattle.load_maker.specs.Generated.{after_move, after_round, again, conn_before, dropped_or_returned, game_made, generated, gold_given, most_moves, most_players, most_things, player_made, return_id, returned_in, room_id, root_made, round_from, rounds_from, seat_of, session_id, thing_made, thing_moved, things_moved, token_id, up_to}
+use Rattle.load_maker.proofs.NamesFit.{return_is, session_is, token_is}
+use Rattle.room_server.specs.Replays.{CanReplay}
 
 -- ---- lists of events that are taken
 
@@ -27,26 +27,6 @@ both_taken (x ∷ xs) ys a b = both_first x xs ys (may_take x) refl a (λ rest. 
 up_taken : (f : ℕ → List HubEvent) (n : ℕ) → ((k : ℕ) → Taken (f k)) → Taken (up_to f n)
 up_taken f zero each = refl
 up_taken f (suc n) each = both_taken (up_to f n) (f n) (up_taken f n each) (each n)
-
--- ---- ids
-
-digit_is : (n : ℕ) → is_id_byte (digit n) ≡ true
-digit_is n = grind (arith, nat_tests)
-
-session_is : (i : ℕ) → is_id (session_id i) ≡ true
-session_is i = and_from (is_id_byte (digit i)) true (digit_is i) refl
-
-token_is : (i : ℕ) → is_id (token_id i) ≡ true
-token_is i = and_from (is_id_byte (digit i)) true (digit_is i) refl
-
-return_is : (k : ℕ) → is_id (return_id k) ≡ true
-return_is k =
-    and_from (is_id_byte (digit (k / 100000))) _ (digit_is (k / 100000))
-    (and_from (is_id_byte (digit (k / 10000))) _ (digit_is (k / 10000))
-    (and_from (is_id_byte (digit (k / 1000))) _ (digit_is (k / 1000))
-    (and_from (is_id_byte (digit (k / 100))) _ (digit_is (k / 100))
-    (and_from (is_id_byte (digit (k / 10))) _ (digit_is (k / 10))
-    (and_from (is_id_byte (digit k)) true (digit_is k) refl)))))
 
 -- ---- events
 
@@ -75,8 +55,8 @@ game_taken =
     (both_taken root_made (up_to (λ n. player_made (n + 1)) most_players ++ up_to thing_made most_things) refl
     (both_taken (up_to (λ n. player_made (n + 1)) most_players) (up_to thing_made most_things) (up_taken (λ n. player_made (n + 1)) most_players (λ n. refl)) (up_taken thing_made most_things (λ n. refl))))
 
-pub generated_plays : (seed rounds : ℕ) → CanPlay (generated seed rounds)
-generated_plays seed rounds = record {
+pub generated_replays : (seed rounds : ℕ) → CanReplay (generated seed rounds)
+generated_replays seed rounds = record {
   process = refl;
   defs = refl;
   events = both_taken game_made (rounds_from seed rounds) game_taken (up_taken (λ n. round_from (n + 1) (again after_round n seed)) rounds (λ n. round_taken (n + 1) (again after_round n seed)));

@@ -10,16 +10,16 @@ use Rattle.room_server.specs.Summaries.{live_in}
 
 live_here : (rs : List HubRoom) (n live count more : ℕ) (r : Option RoomValue) → option_map (λ (r : HubRoom). r.room) (slice_get rs n) ≡ r → (v : RoomValue) → r ≡ Some v → count ≡ live_count v.sessions → more ≡ live + count
     → live + live_in (drop n rs) ≡ more + live_in (drop (suc n) rs)
-live_here [] n live count more r is v here told sum = absurd cc
-live_here (x ∷ rs) zero live count more r is v here told sum =
+live_here [] n live count more r is v here counts sum = absurd cc
+live_here (x ∷ rs) zero live count more r is v here counts sum =
     let one : x.room ≡ v = cc in
-    let same : live_count x.room.sessions ≡ count = ap (λ (w : RoomValue). live_count w.sessions) one ∙ sym told in
+    let same : live_count x.room.sessions ≡ count = ap (λ (w : RoomValue). live_count w.sessions) one ∙ sym counts in
     omega (arith, same, sum)
-live_here (x ∷ rs) (suc n) live count more r is v here told sum = live_here rs n live count more r is v here told sum
+live_here (x ∷ rs) (suc n) live count more r is v here counts sum = live_here rs n live count more r is v here counts sum
 
 pub live_first : (rs : List HubRoom) (n live count more : ℕ) (v : RoomValue) → option_map (λ (r : HubRoom). r.room) (slice_get rs n) ≡ Some v → count ≡ live_count v.sessions → more ≡ live + count
     → live + live_in (drop n rs) ≡ more + live_in (drop (n + 1) rs)
-live_first rs n live count more v there told sum = live_here rs n live count more (Some v) there v refl told sum ∙ ap (λ k. more + live_in (drop k rs)) (sym (add-one n))
+live_first rs n live count more v there counts sum = live_here rs n live count more (Some v) there v refl counts sum ∙ ap (λ k. more + live_in (drop k rs)) (sym (add-one n))
 
 pub live_none : (rs : List HubRoom) (n live : ℕ) → is_some (slice_get rs n) ≡ false → live + live_in (drop n rs) ≡ live
 live_none [] zero live none = omega arith

@@ -12,5 +12,5 @@ past [] (suc i) all = refl
 past (l ∷ ls) zero all = absurd (omega (arith, all))
 past (l ∷ ls) (suc i) all = past ls i (omega (arith, all))
 
-pub end_told : (conn : ℕ) (schema : Schema) (c : Client) (lines : List (ℕ × HubOut)) (i : ℕ) → length lines ≤ i → client_behind conn schema c (drop i lines) ≡ Ok c
-end_told conn schema c lines i all = ap (client_behind conn schema c) (past lines i all)
+pub end_outs : (conn : ℕ) (schema : Schema) (c : Client) (lines : List (ℕ × HubOut)) (i : ℕ) → length lines ≤ i → client_behind conn schema c (drop i lines) ≡ Ok c
+end_outs conn schema c lines i all = ap (client_behind conn schema c) (past lines i all)

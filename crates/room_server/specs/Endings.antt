@@ -2,7 +2,7 @@
 use Rattle.std.specs.Prelude.{◌≡◌, ◌⊎◌, ◌++◌, ℕ, ◌^◌, ◌≤◌, List, length, Option, Some, None, IsErrOf, Result, Ok, Err, true}
 use Rattle.outside.specs.Faults.{Rose}
 use Rattle.outside.specs.Reads.{Reads, ReadsAll}
-use Rattle.outside.specs.Streams.{Takes, TakesFront}
+use Rattle.outside.specs.Streams.{Takes, TakesPrefix}
 use Rattle.life_model.specs.Clients.{Client}
 use Rattle.load_maker.specs.Generated.{generated}
 use Rattle.text_model.specs.declared.schedule.Print.{Print}
@@ -33,10 +33,10 @@ status_of Memory = 7
 
 -- ---- what a call that writes leaves
 
--- all of the output was taken, or where the call failed a front of it
+-- all of the output was taken, or where the call failed a prefix of it
 abbrev pub Writes : {T E : Type 0} → Option (List ℕ) → Option (List ℕ) → List ℕ → Result T E → Type 0
 Writes before after output (Ok x) = Takes before after output
-Writes before after output (Err e) = TakesFront before after output
+Writes before after output (Err e) = TakesPrefix before after output
 
 -- a count of faults didn't fall, rose where the sink failed, and is as it was where it didn't
 pub record HasWriteCause {T : Type 0} (before now : ℕ) (result : Result T WriteFault) : Type 0 where
@@ -52,10 +52,10 @@ ended_as (Ok x) whole = whole
 ended_as (Err fault.Failed) whole = WriteFailed
 ended_as (Err fault.Memory) whole = Memory
 
--- it wrote the whole answer and ends as the answer says, or a front of it
+-- it wrote the whole answer and ends as the answer says, or a prefix of it
 abbrev pub EndsAs : Answer → Option (List ℕ) → Option (List ℕ) → Ending → Type 0
-EndsAs a before after WriteFailed = TakesFront before after a.output
-EndsAs a before after Memory = TakesFront before after a.output
+EndsAs a before after WriteFailed = TakesPrefix before after a.output
+EndsAs a before after Memory = TakesPrefix before after a.output
 EndsAs a before after e = (e ≡ a.ending) × Takes before after a.output
 
 -- the text was read: all of the source's bytes, or more than 16 MiB of them

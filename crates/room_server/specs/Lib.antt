@@ -7,4 +7,4 @@ pub mod Summaries
 pub mod Answers
 pub mod Promised
 pub mod Endings
-pub mod Plays
+pub mod Replays

@@ -6,7 +6,7 @@ use Rattle.life_model.specs.HubPromises.{HubKeeps, HubFollows}
 use Rattle.outside.specs.Streams.{Takes}
 use Rattle.text_model.specs.declared.schedule.Schedule.{Schedule}
 use Rattle.text_model.specs.SchemaLines.{schema_text}
-use Rattle.room_server.specs.Turns.{rules, start, told}
+use Rattle.room_server.specs.Turns.{rules, start, outs_text}
 
 -- the promises hold of these events of a schedule's hub, after every first so many of them, and a client follows each life
 abbrev pub Keeps : Schedule → List HubEvent → Type 0
@@ -22,7 +22,7 @@ KeepsFirst count s = Keeps s (take count s.events)
 
 -- what is printed of the first so many events: the schema lines and their outputs
 abbrev pub printed_of : ℕ → Schedule → List ℕ
-printed_of count s = schema_text s.schema ++ told (start s) (take count s.events)
+printed_of count s = schema_text s.schema ++ outs_text (start s) (take count s.events)
 
 -- these bytes were taken whole, perhaps with more behind them
 abbrev pub TakesWhole : Option (List ℕ) → Option (List ℕ) → List ℕ → Type 0

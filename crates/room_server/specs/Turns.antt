@@ -20,12 +20,12 @@ abbrev pub start : Schedule → HubValue
 start s = new_hub s.schema s.process s.defs
 
 -- the lines of what a hub gives for these events
-abbrev pub told : HubValue → List HubEvent → List ℕ
-told hub events = flat_map out_line (outs_from rules hub events)
+abbrev pub outs_text : HubValue → List HubEvent → List ℕ
+outs_text hub events = flat_map out_line (outs_from rules hub events)
 
 abbrev pub end_line : List ℕ
 end_line = line (codes "end" ∷ [])
 
 -- what is printed: the schema lines, the outputs of the run of its events, and `end`
 abbrev pub printed : Schedule → List ℕ
-printed s = schema_text s.schema ++ (told (start s) s.events ++ end_line)
+printed s = schema_text s.schema ++ (outs_text (start s) s.events ++ end_line)

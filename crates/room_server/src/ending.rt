@@ -15,7 +15,7 @@ pub enum Ending {
     ReadFailed,
     /// The sink failed.
     WriteFailed,
-    /// Want of memory.
+    /// Out of memory.
     Memory,
 }
 

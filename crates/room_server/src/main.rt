@@ -15,6 +15,8 @@ mod task;
 #[cfg(test)]
 mod tests;
 mod view;
+#[cfg(test)]
+mod written_tests;
 
 use ending::Ending;
 use lists::{Memory, Seq, Text};

@@ -23,7 +23,7 @@ pub fn answer_source<S: Source, K: Sink>(
     sink: &mut K,
 ) -> Ending
     ensures ends { ReadEnds task (S.left source.old) (S.left source.new) (K.taken sink.old) (K.taken sink.new) result }
-    ensures front { (bytes : List ℕ) × (length bytes ≤ 2 ^ 24 + 1) × Reads (S.left source.old) (S.left source.new) bytes }
+    ensures prefix { (bytes : List ℕ) × (length bytes ≤ 2 ^ 24 + 1) × Reads (S.left source.old) (S.left source.new) bytes }
     ensures read_later { S.faults source.old ≤ S.faults source.new }
     ensures read_cause { result ≡ ending.ReadFailed → Rose (S.faults source.old) (S.faults source.new) }
     ensures read_quiet { (result ≡ ending.ReadFailed → ⊥) → S.faults source.new ≡ S.faults source.old }

@@ -6,8 +6,8 @@ ghost use Rattle.outside.specs.Faults.{Rose};
 ghost use Rattle.text_model.specs.Schedules.{read_schedule_text};
 ghost use Rattle.room_server.specs.Answers.{schedule_answer};
 ghost use Rattle.room_server.specs.Endings.{EndsAs, HasWriteCause, Writes};
-ghost use Rattle.room_server.specs.Plays.{CanPlay};
-ghost use Rattle.room_server.specs.Turns.{end_line, printed, start, told};
+ghost use Rattle.room_server.specs.Replays.{CanReplay};
+ghost use Rattle.room_server.specs.Turns.{end_line, printed, start, outs_text};
 ghost use Rattle.room_server.specs.declared.ending.Ending.TheVariants as ending;
 
 use crate::ending::Ending;
@@ -33,7 +33,7 @@ pub fn replay_text<K: Sink>(alloc: Global, text: &[u8], sink: &mut K) -> Ending
     ensures quiet { (result ≡ ending.WriteFailed → ⊥) → K.faults sink.new ≡ K.faults sink.old }
 {
     match read_schedule(alloc, text) {
-        Ok(schedule) => ended(play(alloc, schedule, sink), Ending::Done),
+        Ok(schedule) => ended(replay(alloc, schedule, sink), Ending::Done),
         Err(ScheduleFault::Line(number, part)) => {
             let word = part_word(part);
             ended(write_refusal(alloc, sink, number, word), Ending::Refused)
@@ -43,19 +43,19 @@ pub fn replay_text<K: Sink>(alloc: Global, text: &[u8], sink: &mut K) -> Ending
 }
 
 /// Runs a schedule, and writes the schema lines, the outputs event by event, and `end`.
-fn play<K: Sink>(alloc: Global, schedule: Schedule, sink: &mut K) -> Result<(), WriteFault>
-    requires { CanPlay schedule }
+fn replay<K: Sink>(alloc: Global, schedule: Schedule, sink: &mut K) -> Result<(), WriteFault>
+    requires { CanReplay schedule }
     ensures writes { Writes (K.taken sink.old) (K.taken sink.new) (printed schedule) result }
     ensures cause { HasWriteCause (K.faults sink.old) (K.faults sink.new) result }
 {
     write_schema(alloc, sink, &schedule.schema)?;
-    play_whole(alloc, schedule, sink)
+    replay_whole(alloc, schedule, sink)
 }
 
 /// Runs the events of a schedule, and writes their outputs and `end`.
-fn play_whole<K: Sink>(alloc: Global, schedule: Schedule, sink: &mut K) -> Result<(), WriteFault>
-    requires { CanPlay schedule }
-    ensures writes { Writes (K.taken sink.old) (K.taken sink.new) (told (start schedule) schedule.events ++ end_line) result }
+fn replay_whole<K: Sink>(alloc: Global, schedule: Schedule, sink: &mut K) -> Result<(), WriteFault>
+    requires { CanReplay schedule }
+    ensures writes { Writes (K.taken sink.old) (K.taken sink.new) (outs_text (start schedule) schedule.events ++ end_line) result }
     ensures cause { HasWriteCause (K.faults sink.old) (K.faults sink.new) result }
 {
     let Schedule {
@@ -65,29 +65,29 @@ fn play_whole<K: Sink>(alloc: Global, schedule: Schedule, sink: &mut K) -> Resul
         events,
     } = schedule;
     let mut hub = Hub::new(alloc, schema, process, defs)?;
-    play_events::<K, Brand>(alloc, &mut hub, &events, sink, Blank::new(1))?;
+    replay_events::<K, Brand>(alloc, &mut hub, events, sink, Blank::new(1))?;
     write_end(alloc, sink)
 }
 
 /// Has a hub take events one after another, and writes what each gives before the next.
-fn play_events<K: Sink, L: Ledger>(
+fn replay_events<K: Sink, L: Ledger>(
     alloc: Global,
     hub: &mut Hub<Room>,
-    events: &Events,
+    events: Events,
     sink: &mut K,
     blank: Blank,
 ) -> Result<(), WriteFault>
     requires name { blank.name ≡ L.name }
     requires parts { blank.parts ≡ L.parts }
     requires some { 0 < blank.parts }
-    requires may { list_all may_take events.now ≡ true }
+    requires may { list_all may_take events ≡ true }
     requires fresh { hub.old.spent ≡ false }
-    ensures writes { Writes (K.taken sink.old) (K.taken sink.new) (told hub.old.hub events.now) result }
+    ensures writes { Writes (K.taken sink.old) (K.taken sink.new) (outs_text hub.old.hub events) result }
     ensures cause { HasWriteCause (K.faults sink.old) (K.faults sink.new) result }
 {
     let mut steps = Steps::<L>::new(blank);
-    for event in events.as_slice() {
-        let outs = hub.step(event, &mut steps)?;
+    for event in events.into_vec() {
+        let outs = hub.take(event, &mut steps)?;
         write_outs(alloc, sink, &outs)?;
     }
     Ok(())

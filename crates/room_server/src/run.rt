@@ -2,7 +2,7 @@
 ghost use Rattle.std.specs.Prelude.{◌≡◌, ◌⊎◌, ◌≤◌, ◌+◌, ◌^◌, ℕ, List, [], ◌∷◌, length, Contains, None, Some, IfSome};
 ghost use Rattle.outside.specs.Faults.{Rose};
 ghost use Rattle.outside.specs.Reads.{Reads};
-ghost use Rattle.outside.specs.Streams.{Takes, TakesFront};
+ghost use Rattle.outside.specs.Streams.{Takes, TakesPrefix};
 ghost use Rattle.text_model.specs.declared.schedule.Schedule.{Schedule};
 ghost use Rattle.text_model.specs.Schedules.{IsScheduleText};
 ghost use Rattle.room_server.specs.Answers.{answer_for};
@@ -24,7 +24,7 @@ use std::alloc::Global;
 
 /// Does what the words behind the program's name call for, and answers the status of the process:
 /// 0 all was read and written, 2 the words are no command's, 3 the text isn't of its form or a frame of it is refused, 4 the
-/// source failed, 5 the sink failed, 7 want of memory.
+/// source failed, 5 the sink failed, 7 out of memory.
 pub fn run<S: Source, K: Sink, W: Wire, C: Clock, I: Ids>(
     alloc: Global,
     words: &Words,
@@ -57,9 +57,9 @@ pub fn run<S: Source, K: Sink, W: Wire, C: Clock, I: Ids>(
     // 5: the sink's count of faults rose in this call.
     ensures write_cause { result ≡ 5 → Rose (K.faults sink.old) (K.faults sink.new) }
 
-    // Whatever the status is, the sink took a front of what the words and the text call for.
-    ensures front { (text : List ℕ) × IfSome (S.left source.old) (λ all. all ≡ text)
-        × TakesFront (K.taken sink.old) (K.taken sink.new) (answer_for (task_of words.now) text).output }
+    // Whatever the status is, the sink took a prefix of what the words and the text call for.
+    ensures prefix { (text : List ℕ) × IfSome (S.left source.old) (λ all. all ≡ text)
+        × TakesPrefix (K.taken sink.old) (K.taken sink.new) (answer_for (task_of words.now) text).output }
 
     // Whatever the status is, the same promises hold of the events whose outputs the sink took whole.
     ensures promises { task_of words.now ≡ Some Replay → IfSome (S.left source.old) (λ text. (s : Schedule) → IsScheduleText text s

@@ -4,7 +4,7 @@ ghost use Rattle.std.specs.List.{list_all};
 ghost use Rattle.hub_core.specs.Held.{may_take};
 ghost use Rattle.hub_model.specs.HubStep.{hub_after, outs_from};
 ghost use Rattle.text_model.specs.Marks.{line};
-ghost use Rattle.room_server.specs.Plays.{CanPlay};
+ghost use Rattle.room_server.specs.Replays.{CanReplay};
 ghost use Rattle.room_server.specs.Summaries.{counted, counts_text, is_tick, live_in, no_outs, run_text, summary_text, with_out, with_outs};
 ghost use Rattle.room_server.specs.Turns.{rules};
 
@@ -27,7 +27,7 @@ pub struct Tally {
     pub bytes: u64,
 }
 
-// A sum. One past 2^64 - 1 is answered as want of memory.
+// A sum. One past 2^64 - 1 is answered as out of memory.
 fn sum(a: u64, b: u64) -> Result<u64, Memory>
     ensures { IfOk result (λ n. n ≡ a + b) }
 {
@@ -85,21 +85,21 @@ impl Tally {
 // Has a hub take events one after another, and counts what they give.
 fn tally_events<L: Ledger>(
     hub: &mut Hub<Room>,
-    events: &Events,
+    events: Events,
     blank: Blank,
 ) -> Result<Tally, Memory>
     requires name { blank.name ≡ L.name }
     requires parts { blank.parts ≡ L.parts }
     requires some { 0 < blank.parts }
-    requires may { list_all may_take events.now ≡ true }
+    requires may { list_all may_take events ≡ true }
     requires fresh { hub.old.spent ≡ false }
-    ensures tally { IfOk result (λ t. t ≡ with_outs no_outs (outs_from rules hub.old.hub events.now)) }
-    ensures hub { OnOk result (hub.new ≡ record { hub = hub_after rules hub.old.hub events.now; spent = false }) }
+    ensures tally { IfOk result (λ t. t ≡ with_outs no_outs (outs_from rules hub.old.hub events)) }
+    ensures hub { OnOk result (hub.new ≡ record { hub = hub_after rules hub.old.hub events; spent = false }) }
 {
     let mut steps = Steps::<L>::new(blank);
     let mut tally = Tally::new();
-    for event in events.as_slice() {
-        let outs = hub.step(event, &mut steps)?;
+    for event in events.into_vec() {
+        let outs = hub.take(event, &mut steps)?;
         tally = tally.with_outs(&outs)?;
     }
     Ok(tally)
@@ -140,7 +140,7 @@ fn ticks_in(events: &[HubEvent]) -> usize
 /// The summary of a schedule's run: how many events and ticks there are, how many sessions are live at the end, how many
 /// outputs are refusals, how many are frames that are sent, and how many bytes those have.
 pub fn summarize(alloc: Global, schedule: Schedule) -> Result<Vec<u8>, Memory>
-    requires { CanPlay schedule }
+    requires { CanReplay schedule }
     ensures { IfOk result (λ text. text.items ≡ summary_text schedule) }
 {
     let Schedule {
@@ -150,19 +150,20 @@ pub fn summarize(alloc: Global, schedule: Schedule) -> Result<Vec<u8>, Memory>
         events,
     } = schedule;
     let mut hub = Hub::new(alloc, schema, process, defs)?;
-    summarize_events(alloc, &mut hub, &events)
+    summarize_events(alloc, &mut hub, events)
 }
 
 // The same of a hub and its events.
-fn summarize_events(alloc: Global, hub: &mut Hub<Room>, events: &Events) -> Result<Vec<u8>, Memory>
-    requires may { list_all may_take events.now ≡ true }
+fn summarize_events(alloc: Global, hub: &mut Hub<Room>, events: Events) -> Result<Vec<u8>, Memory>
+    requires may { list_all may_take events ≡ true }
     requires fresh { hub.old.spent ≡ false }
-    ensures { IfOk result (λ text. text.items ≡ run_text hub.old.hub events.now) }
+    ensures { IfOk result (λ text. text.items ≡ run_text hub.old.hub events) }
 {
+    let count = events.len();
+    let ticks = ticks_in(events.as_slice());
     let tally = tally_events::<Brand>(hub, events, Blank::new(1))?;
     let live = live_in(hub)?;
-    let ticks = ticks_in(events.as_slice());
-    counts_text(alloc, events.len(), ticks, live, tally)
+    counts_text(alloc, count, ticks, live, tally)
 }
 
 // The lines of counts.

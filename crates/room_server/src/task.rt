@@ -8,7 +8,7 @@ ghost use Rattle.room_server.specs.declared.task.Task.TheVariants as task;
 
 use load_maker::MOST_ROUNDS;
 use room_model::Words;
-use schema_reader::decimal::{read_below, read_decimal};
+use text_words::{read_below, read_decimal};
 
 /// What the program is to do.
 #[derive(Clone, Copy, Debug, PartialEq, Eq)]

@@ -7,18 +7,19 @@ use schema_model::Id;
 use std::alloc::{AllocError, Global};
 use std::test::Fail;
 
-const HEAD: &str = "class State\nfield x number\nroot State\nprocess proc00001\n\
+/// What stands before the events of most schedules here.
+pub const HEAD: &str = "class State\nfield x number\nroot State\nprocess proc00001\n\
     room duel max 4 seat 15000 patch 50 keep 0\nevents\nat 0\n";
 
-const ASK: &str = "ask 1 /matchmake/joinOrCreate/duel {} room00001 sess00001\n";
+pub const ASK: &str = "ask 1 /matchmake/joinOrCreate/duel {} room00001 sess00001\n";
 
-const OPEN: &str = "open 2 /proc00001/room00001?sessionId=sess00001 token0001\n";
+pub const OPEN: &str = "open 2 /proc00001/room00001?sessionId=sess00001 token0001\n";
 
-const ACKNOWLEDGE: &str = "frame 2 0a\n";
+pub const ACKNOWLEDGE: &str = "frame 2 0a\n";
 
-const PUT: &str = "act room00001 put 0 0 5\n";
+pub const PUT: &str = "act room00001 put 0 0 5\n";
 
-const TICK: &str = "tick room00001\n";
+pub const TICK: &str = "tick room00001\n";
 
 const JOINED: &str = "class State\nfield x number\nroot State\ncreated room00001 duel\n\
     reply 1 {\"room\":{\"clients\":1,\"maxClients\":4,\"name\":\"duel\",\"processId\":\"proc00001\",\
@@ -27,7 +28,8 @@ const JOINED: &str = "class State\nfield x number\nroot State\ncreated room00001
 
 const USAGE: &str = "usage: replay | serve PORT COUNT | view CONN | make SEED ROUNDS\n";
 
-fn joined(alloc: Global, parts: &[&str]) -> Result<Vec<u8>, AllocError> {
+/// Texts one behind the other.
+pub fn joined(alloc: Global, parts: &[&str]) -> Result<Vec<u8>, AllocError> {
     let mut text = Vec::new(alloc);
     for part in parts {
         text.extend_from_slice(part.as_bytes())?;
@@ -43,8 +45,8 @@ fn words_of(alloc: Global, words: &[&str]) -> Result<Words, Memory> {
     Ok(all)
 }
 
-// The status of a run over things in memory; what was written is in the sink.
-fn status_of(
+/// The status of a run over things in memory; what was written is in the sink.
+pub fn status_of(
     alloc: Global,
     words: &[&str],
     source: &mut MemSource,
@@ -57,8 +59,8 @@ fn status_of(
     Ok(run(alloc, &words, source, sink, &mut wire, &mut clock, &mut ids))
 }
 
-// Whether the replay of a text ends with a status and writes this.
-fn replays(alloc: Global, text: Vec<u8>, status: u8, output: &[u8]) -> Result<bool, Memory> {
+/// Whether the replay of a text ends with a status and writes this.
+pub fn replays(alloc: Global, text: Vec<u8>, status: u8, output: &[u8]) -> Result<bool, Memory> {
     let mut source = MemSource::new(text, Vec::new(alloc));
     let mut sink = MemSink::new(alloc, Vec::new(alloc));
     let given = status_of(alloc, &["replay"], &mut source, &mut sink)?;
@@ -232,8 +234,8 @@ fn names_the_first_fault(rt: HostRuntime) -> Result<(), Fail> {
     Ok(())
 }
 
-// Whether a command with words gives a status and writes this of a text.
-fn answers(
+/// Whether a command with words gives a status and writes this of a text.
+pub fn answers(
     alloc: Global,
     words: &[&str],
     text: Vec<u8>,
@@ -247,7 +249,7 @@ fn answers(
 }
 
 #[test]
-fn plays_the_examples(rt: HostRuntime) -> Result<(), Fail> {
+fn replays_the_examples(rt: HostRuntime) -> Result<(), Fail> {
     let alloc = rt.alloc();
     for [schedule, output] in [DUEL, HANDS, FULL, RETURNS, BOARD] {
         let text = joined(alloc, &[schedule])?;

@@ -5,7 +5,7 @@ use Rattle.schema_model.specs.declared.fault.ReadFault.{ReadFault}
 use Rattle.schema_model.specs.declared.fault.ScalarFault.{ScalarFault}
 use Rattle.schema_model.specs.declared.fault.ScalarFault.TheVariants.{Read, Memory}
 
--- exactly the value or the fault that the bytes are, or want of memory where they are a value
+-- exactly the value or the fault that the bytes are, or out of memory where they are a value
 abbrev pub GivesScalar : Result (Value × ℕ) ScalarFault → Result (Value × ℕ) ReadFault → Type 0
 GivesScalar (Ok read) there = there ≡ Ok read
 GivesScalar (Err (Read fault)) there = there ≡ Err fault

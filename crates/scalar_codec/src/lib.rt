@@ -1,10 +1,10 @@
 //! Scalars as bytes, both ways.
 #![tactic(auto)]
 
-pub mod fixed;
-pub mod number;
-pub mod scalar;
-pub mod text;
+mod fixed;
+mod number;
+mod scalar;
+mod text;
 
 pub use fixed::{get_fixed, put_fixed};
 pub use number::{get_number, put_number};

@@ -1,4 +1,4 @@
-//! Texts, with their length in front.
+//! Texts, each after its length.
 ghost use Rattle.std.specs.Prelude.{◌≡◌, ◌≤◌, ◌<◌, ◌^◌, ◌++◌, ℕ, List, length, Ok, Err, OnOk, OnErr, IfOk, MatchResult};
 ghost use Rattle.schema_model.specs.Spelling.{text_bytes, text_head};
 ghost use Rattle.schema_model.specs.Reading.{text_at, text_length, text_of};

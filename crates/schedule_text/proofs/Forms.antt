@@ -9,7 +9,7 @@ use Rattle.text_model.specs.Lines.{passing}
 use Rattle.text_model.specs.Events.{event_of, plainly_of}
 use Rattle.text_model.specs.OutLines.{plain_out}
 use Rattle.text_model.specs.Schedules.{process_of}
-use Rattle.schema_reader.specs.Words.{bytes_of}
+use Rattle.text_words.specs.Words.{bytes_of}
 
 pub act_other : (ws : List (Bor (List ℕ))) → length ws ≢ 1 → length ws ≢ 2 → length ws ≢ 3 → length ws ≢ 4 → act_of (bytes_of ws) ≡ None
 act_other [] h1 h2 h3 h4 = refl

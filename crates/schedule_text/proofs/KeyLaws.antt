@@ -12,7 +12,7 @@ use Rattle.text_model.specs.Lines.{some_if}
 use Rattle.text_model.specs.Marks.{is_room_name}
 use Rattle.text_model.proofs.Keys.{keys_apart, keys_push}
 use Rattle.text_model.proofs.Spaced.{all_append}
-use Rattle.schema_reader.specs.Words.{bytes_of}
+use Rattle.text_words.specs.Words.{bytes_of}
 
 -- a word at a place
 pub bytes_at : (ws : List (Bor (List ℕ))) (i : ℕ) (d : Bor (List ℕ)) → get_or (bytes_of ws) i d.now ≡ (get_or ws i d).now

@@ -1,5 +1,5 @@
+pub mod AgainLaws
 pub mod Bytes
-pub mod CutLaws
 pub mod Forms
 pub mod HexLaws
 pub mod JsonLaws
@@ -10,4 +10,3 @@ pub mod ReadLaws
 pub mod RefusalLaws
 pub mod ReplyLaws
 pub mod Texts
-pub mod AgainLaws

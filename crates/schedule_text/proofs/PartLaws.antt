@@ -12,9 +12,10 @@ use Rattle.text_model.specs.Lines.{behind_lines, lines_in, pieces_of, words_of}
 use Rattle.text_model.specs.Schedules.{Fault, behind, behind_schema, is_root_line, schema_of_lines, schema_part, with_schema}
 use Rattle.text_model.specs.SchemaReading.{empty_draft, ended, lines_taken, read_pieces, read_schema_text}
 use Rattle.text_model.proofs.SchemaLaw.{lines_are_schema}
-use Rattle.text_model.proofs.Spaced.{all_append, cut_first, front_of_push, last_of_push}
-use Rattle.schedule_text.specs.Cuts.{IsCut, IsEnd, IsUncut}
-use Rattle.schedule_text.proofs.CutLaws.{front_more, last_more}
+use Rattle.text_model.proofs.Spaced.{all_append, cut_first, prefix_of_push, last_of_push}
+use Rattle.text_words.specs.Cuts.{IsCut, IsUncut}
+use Rattle.schedule_text.specs.Tells.{IsEnd}
+use Rattle.text_words.proofs.CutLaws.{prefix_more, last_more}
 
 -- lines, each with its LF
 abbrev pub texts : List (List ℕ) → List ℕ
@@ -42,7 +43,7 @@ pub lines_behind : (ls : List (List ℕ)) (t : List ℕ) → lack ls ≡ true �
 lines_behind [] t h = refl
 lines_behind (l ∷ ls) t h =
     let parts = and_parts (list_all (λ b. not (b == 10)) l) (lack ls) h in
-    ap (λ ps. take (length ps - 1) ps) (pieces_first l ls t parts.0) ∙ (front_more l (pieces_of (texts ls ++ t)) (some_pieces (texts ls ++ t)) ∙ ap (λ ps. l ∷ ps) (lines_behind ls t parts.1))
+    ap (λ ps. take (length ps - 1) ps) (pieces_first l ls t parts.0) ∙ (prefix_more l (pieces_of (texts ls ++ t)) (some_pieces (texts ls ++ t)) ∙ ap (λ ps. l ∷ ps) (lines_behind ls t parts.1))
 
 pub rest_behind : (ls : List (List ℕ)) (t : List ℕ) → lack ls ≡ true → behind_lines (texts ls ++ t) ≡ behind_lines t
 rest_behind [] t h = refl
@@ -95,7 +96,7 @@ schema_of_texts ls h =
     let pieces : pieces_of (texts ls) ≡ ls ++ [] ∷ [] = ap pieces_of (sym (append-nil (texts ls))) ∙ pieces_behind ls [] h in
     let count : length (ls ++ [] ∷ []) - 1 ≡ length ls = omega (arith, length_push ls []) in
     ap read_pieces pieces
-    ∙ (ap₂ (λ front last. lines_taken 1 empty_draft (map words_of front) >>= ended (length (ls ++ [] ∷ []) - 1) last) (front_of_push ls []) (last_of_push ls [])
+    ∙ (ap₂ (λ prefix last. lines_taken 1 empty_draft (map words_of prefix) >>= ended (length (ls ++ [] ∷ []) - 1) last) (prefix_of_push ls []) (last_of_push ls [])
     ∙ ap (λ k. lines_taken 1 empty_draft (map words_of ls) >>= ended k []) count)
 
 -- the first root's line
@@ -127,7 +128,7 @@ end_found text count rest line behind_it r cut is =
     let all : text ≡ texts own ++ behind_it = more_joined text rest line behind_it r.done r.joined cut.joined in
     let lacking : lack own ≡ true = all_append (λ l. list_all (λ b. not (b == 10)) l) r.done (line ∷ []) r.lacking (and_from (list_all (λ b. not (b == 10)) line) true cut.lacks refl) in
     let long : length (texts own) ≡ len = omega (arith, ap length all, length-append (texts own) behind_it) in
-    let front : take len text ≡ texts own = ap (take len) all ∙ take_at (texts own) behind_it len long in
+    let prefix : take len text ≡ texts own = ap (take len) all ∙ take_at (texts own) behind_it len long in
     let back : drop len text ≡ behind_it = ap (drop len) all ∙ drop_at (texts own) behind_it len long in
     let lines : lines_in text ≡ r.done ++ line ∷ lines_in behind_it = ap lines_in all ∙ (lines_behind own behind_it lacking ∙ append_assoc r.done (line ∷ []) (lines_in behind_it)) in
     let ended_by : behind_lines text ≡ behind_lines behind_it = ap behind_lines all ∙ rest_behind own behind_it lacking in
@@ -141,7 +142,7 @@ end_found text count rest line behind_it r cut is =
           ∙ (ap (λ b. cond b (behind (schema_of_lines (schema_part (r.done ++ line ∷ lines_in behind_it)) []) (λ s. go (suc (length (schema_part (r.done ++ line ∷ lines_in behind_it)))) s (behind_schema (r.done ++ line ∷ lines_in behind_it))))
           (behind (schema_of_lines (r.done ++ line ∷ lines_in behind_it) (behind_lines text)) (λ s. go (suc (length (r.done ++ line ∷ lines_in behind_it))) s []))) (any_at r.done line (lines_in behind_it) is)
           ∙ (ap₂ (λ part more. behind (schema_of_lines part []) (λ s. go (suc (length part)) s more)) (part_at r.done line (lines_in behind_it) r.none is) (behind_at r.done line (lines_in behind_it) r.none is)
-          ∙ (ap (λ x. behind x (λ s. go (suc (length own)) s (lines_in behind_it))) (sym (ap read_schema_text front ∙ schema_of_texts own lacking))
+          ∙ (ap (λ x. behind x (λ s. go (suc (length own)) s (lines_in behind_it))) (sym (ap read_schema_text prefix ∙ schema_of_texts own lacking))
           ∙ ap₂ (λ k more. behind (read_schema_text (take len text)) (λ s. go (suc k) s (lines_in more))) count_is (sym back))));
       rest = λ s read. ap behind_lines back ∙ sym ended_by;
     }

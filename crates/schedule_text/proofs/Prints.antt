@@ -1,33 +1,10 @@
 -- What is appended, part by part.
-use Rattle.std.proofs.Common.{◌≡◌, ℕ, ◌+◌, ◌/◌, ◌%◌, ◌<◌, true, eqb, List, [], ◌∷◌, ◌++◌, length, take, get_or, map, Result, Ok, Err, refl, sym, ap, ◌∙◌, arith}
+use Rattle.std.proofs.Common.{◌≡◌, ℕ, ◌+◌, ◌<◌, List, [], ◌∷◌, ◌++◌, length, take, get_or, map, Result, Ok, Err, refl, sym, ap, ◌∙◌, arith}
 use Rattle.std.specs.Prelude.{OnErr}
-use Rattle.std.specs.List.{All, flat_map}
-use Rattle.std.proofs.lemmas.List.Elements.{All-head, All-tail}
-use Rattle.std.proofs.lemmas.Bool.{agree_below_at, eqb-true}
 use Rattle.std.proofs.lemmas.List.{append_assoc, take_more, append-nil, map-append, length-map, length-take-le}
-use Rattle.hex.specs.Hex.{encode_with, encode_lower, lower_digits}
-use Rattle.schema_reader.specs.Words.{behind}
-use Rattle.text_model.specs.Marks.{hex_digit, hex_byte, hex_word, spaced}
+use Rattle.text_words.specs.Words.{behind}
+use Rattle.text_model.specs.Marks.{spaced}
 use Rattle.std.proofs.lemmas.List.Concat.{flat_map-append}
-
--- a digit of the table
-digit_of_table : (n : ℕ) → n < 16 → get_or lower_digits n 0 ≡ hex_digit n
-digit_of_table n h = eqb-true _ _ (agree_below_at (λ k. eqb (get_or lower_digits k 0) (hex_digit k)) (λ _. true) 16 n refl h)
-
--- the digits of bytes, one byte after another
-pub encode_lower-flat_map : (bytes : List ℕ) → All (λ b. b < 256) bytes → encode_lower bytes ≡ flat_map hex_byte bytes
-unfolding encode_with
-encode_lower-flat_map [] h = refl
-encode_lower-flat_map (b ∷ bs) h =
-    let small : b < 256 = All-head (λ x. x < 256) b bs h in
-    let high : get_or lower_digits (b / 16) 0 ≡ hex_digit (b / 16) = digit_of_table (b / 16) (omega arith) in
-    let low : get_or lower_digits (b % 16) 0 ≡ hex_digit (b % 16) = digit_of_table (b % 16) (omega arith) in
-    rw (high, low, encode_lower-flat_map bs (All-tail (λ x. x < 256) b bs h))
-
--- the word of bytes, where there are any
-pub encode_lower-hex_word : (bytes : List ℕ) → 0 < length bytes → All (λ b. b < 256) bytes → encode_lower bytes ≡ hex_word bytes
-encode_lower-hex_word [] some h = absurd (omega arith)
-encode_lower-hex_word (b ∷ bs) some h = encode_lower-flat_map (b ∷ bs) h
 
 -- one word more, behind others
 spaced_push : (w v : List ℕ) (ws : List (List ℕ)) → spaced ((w ∷ ws) ++ v ∷ []) ≡ spaced (w ∷ ws) ++ 32 ∷ v
@@ -51,12 +28,12 @@ word_first f ws i d old mid now h e m n =
 
 pub word_more : {W : Type 0} (f : W → List ℕ) (ws : List W) (i : ℕ) (d : W) (old mid now : List ℕ) → i < length ws → 0 < i → mid ≡ (old ++ spaced (map f (take i ws))) ++ 32 ∷ [] → now ≡ mid ++ f (get_or ws i d) → now ≡ old ++ spaced (map f (take (i + 1) ws))
 word_more f ws i d old mid now h more m n =
-    let front = map f (take i ws) in
+    let prefix = map f (take i ws) in
     let word = f (get_or ws i d) in
-    let one : spaced (map f (take (i + 1) ws)) ≡ spaced front ++ 32 ∷ word =
+    let one : spaced (map f (take (i + 1) ws)) ≡ spaced prefix ++ 32 ∷ word =
     ap spaced (map_take_more f ws i d h)
-    ∙ spaced_push_behind front word (omega (arith, length-map (take i ws) f, length-take-le i ws (omega arith))) in
-    n ∙ (ap (λ t. t ++ word) m ∙ (append_assoc (old ++ spaced front) (32 ∷ []) word ∙ (append_assoc old (spaced front) (32 ∷ word) ∙ ap (λ t. old ++ t) (sym one))))
+    ∙ spaced_push_behind prefix word (omega (arith, length-map (take i ws) f, length-take-le i ws (omega arith))) in
+    n ∙ (ap (λ t. t ++ word) m ∙ (append_assoc (old ++ spaced prefix) (32 ∷ []) word ∙ (append_assoc old (spaced prefix) (32 ∷ word) ∙ ap (λ t. old ++ t) (sym one))))
 
 -- ---- rows
 

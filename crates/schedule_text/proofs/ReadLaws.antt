@@ -17,7 +17,7 @@ use Rattle.text_model.proofs.ScheduleLaws.{read_is_schedule, schedule_is_read}
 use Rattle.text_model.specs.declared.schedule.Word.{Word}
 use Rattle.schedule_text.specs.declared.fault.LineFault.{LineFault}
 use Rattle.schedule_text.specs.declared.fault.LineFault.TheVariants as fault
-use Rattle.schedule_text.specs.Cuts.{IsAnswer, Tells, fault_at, parted}
+use Rattle.schedule_text.specs.Tells.{IsAnswer, Tells, fault_at, parted}
 use Rattle.schedule_text.specs.Reads.{Reads}
 
 -- what is read of a schema, and what goes on behind it

@@ -7,7 +7,7 @@ use Rattle.text_model.specs.Lines.{both, is_word, passing, words_of}
 use Rattle.text_model.specs.Marks.{spaced}
 use Rattle.text_model.specs.OutLines.{is_one_line, out_of, plain_out, reply_of}
 use Rattle.text_model.proofs.Spaced.{spaced-words_of}
-use Rattle.schedule_text.specs.Cuts.{replied}
+use Rattle.schedule_text.specs.Tells.{replied}
 
 some_words : (l : List ℕ) → 0 < length (words_of l)
 some_words l = omega (arith, length-slice_split (λ b. b == 32) l)

@@ -12,7 +12,8 @@ use Rattle.text_model.specs.OutLines.{out_of, outs_from}
 use Rattle.room_model.specs.declared.definition.RoomDef.{RoomDef}
 use Rattle.text_model.specs.DefLines.{next_def}
 use Rattle.text_model.specs.Schedules.{Fault, Parts, at_end, events_from, is_opened, room_word, rooms_from}
-use Rattle.schedule_text.specs.Cuts.{IsCut, behind_some}
+use Rattle.text_words.specs.Cuts.{IsCut}
+use Rattle.schedule_text.specs.Tells.{behind_some}
 
 pub some_none : {A : Type 0} (r : Result (List A) Fault) → behind_some [] r ≡ r
 some_none (Ok ys) = refl

@@ -1,4 +1,5 @@
-pub mod Cuts
-pub mod Reads
-pub mod Words
 pub mod Again
+pub mod Hex
+pub mod Reads
+pub mod Tells
+pub mod Words

@@ -1,7 +1,5 @@
 -- What reading a word or a line gives, where memory may run out. Ours.
 use Rattle.std.specs.Prelude.{◌≡◌, Option, Some, None, Result, Ok, Err}
-use Rattle.hex.specs.declared.error.FromHexError.{FromHexError}
-use Rattle.hex.specs.declared.error.FromHexError.TheVariants.{OutOfMemory}
 use Rattle.schedule_text.specs.declared.fault.LineFault.{LineFault}
 use Rattle.schedule_text.specs.declared.fault.LineFault.TheVariants.{NotOfForm, Memory}
 
@@ -16,8 +14,3 @@ abbrev pub ReadsAs : {A B : Type 0} → (A → B) → Result A LineFault → Opt
 ReadsAs f (Ok x) there = there ≡ Some (f x)
 ReadsAs f (Err NotOfForm) there = there ≡ None
 ReadsAs f (Err Memory) there = Unit {0}
-
--- a word that isn't decoded isn't of the form, unless memory ran out
-abbrev pub hex_fault : FromHexError → LineFault
-hex_fault OutOfMemory = Memory
-hex_fault f = NotOfForm

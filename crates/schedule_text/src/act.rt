@@ -2,16 +2,17 @@
 ghost use Rattle.std.specs.Prelude.{◌≡◌, ◌∷◌, []};
 ghost use Rattle.text_model.specs.Acts.{act_of, home_of, one_of, pair_of, three_of, two_of};
 ghost use Rattle.schedule_text.specs.Reads.{Reads};
-ghost use Rattle.schema_reader.specs.Words.{bytes_of};
+ghost use Rattle.text_words.specs.Words.{bytes_of};
 
 use crate::fault::LineFault;
+use crate::hex::read_hex;
 use crate::number::{read_code, read_field, read_keep, read_ref, read_view_tag};
-use crate::words::{read_hex, read_kind, read_name, read_quoted, read_value};
+use crate::words::{read_kind, read_name, read_quoted, read_value};
 use room_model::Act;
 use schema_model::{Home, Pair, RefNum, TypeNum};
-use schema_reader::names::is_word;
 use state_model::Command;
 use std::alloc::Global;
+use text_words::is_word;
 
 /// A field of a class.
 fn read_home(class: &[u8], field: &[u8]) -> Result<Home, LineFault>

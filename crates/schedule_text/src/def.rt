@@ -7,16 +7,13 @@ ghost use Rattle.text_model.specs.DefLines.{are_def_words, are_keys, comma_split
 ghost use Rattle.text_model.specs.Lines.{passing};
 ghost use Rattle.schedule_text.specs.Reads.{Reads, ReadsAs};
 ghost use Rattle.schedule_text.specs.Words.{numbers_in};
-ghost use Rattle.schema_reader.specs.Words.{bytes_of};
+ghost use Rattle.text_words.specs.Words.{bytes_of};
 
-use crate::decimal::read_within;
 use crate::fault::LineFault;
-use crate::names::is_room_name;
 use lists::{Seq, Text};
 use room_model::{Defs, LONGEST_TIME, MOST_FILTERS, MOST_PLACES, Names, RoomDef};
-use schema_reader::names::is_word;
-use schema_reader::words::name_text;
 use std::alloc::{AllocError, Global};
+use text_words::{is_room_name, is_word, name_text, read_within};
 
 /// How many definitions a schedule has at most.
 const MOST_DEFS: usize = 256;

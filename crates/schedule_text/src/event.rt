@@ -3,17 +3,17 @@ ghost use Rattle.std.specs.Prelude.{◌≡◌, None, codes, if◌then◌else◌}
 ghost use Rattle.text_model.specs.Lines.{is_word};
 ghost use Rattle.text_model.specs.Events.{acted_of, asked_of, event_of, event_of_line, frame_of, number_of_word, opening_of_words, plainly_of, short_of};
 ghost use Rattle.schedule_text.specs.Reads.{Reads};
-ghost use Rattle.schema_reader.specs.Words.{bytes_of};
+ghost use Rattle.text_words.specs.Words.{bytes_of};
 
 use crate::act::read_act;
 use crate::fault::LineFault;
+use crate::hex::read_hex;
 use crate::number::read_number;
-use crate::words::{read_hex, read_name, read_plain, read_plain_text};
+use crate::words::{read_name, read_plain, read_plain_text};
 use hub_model::HubEvent;
 use schema_model::{ConnNum, Id};
-use schema_reader::line::first_words;
-use schema_reader::names::is_word;
 use std::alloc::Global;
+use text_words::{first_words, is_word};
 
 /// A connection's number.
 pub fn read_conn(word: &[u8]) -> Result<ConnNum, LineFault>

@@ -3,16 +3,14 @@
 
 mod act;
 mod again;
-mod decimal;
 mod def;
 mod event;
 mod fault;
-mod lines;
-mod names;
+mod hex;
 mod number;
 mod output;
 mod part;
-pub mod print;
+mod print;
 mod printed;
 mod rows;
 mod schedule;
@@ -23,12 +21,11 @@ mod write;
 pub use again::written_is_read;
 pub use event::read_event;
 pub use fault::LineFault;
-pub use names::read_id;
 pub use print::{print_end, print_fault, print_out};
 pub use printed::read_print;
 pub use rows::print_rows;
 pub use schedule::read_schedule;
-pub use schema_reader::decimal::read_decimal;
+pub use text_model::{Print, Schedule, ScheduleFault, Word};
 pub use words::{read_kind, read_plain, read_quoted, read_value};
 pub use write::{write_definitions, write_event, write_plain, write_quoted, write_value};
 

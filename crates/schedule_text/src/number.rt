@@ -7,12 +7,10 @@ ghost use Rattle.text_model.specs.Events.{number_of_word};
 ghost use Rattle.text_model.specs.WordForms.{tag_of_word};
 ghost use Rattle.schedule_text.specs.Reads.{Reads};
 
-use crate::decimal::read_within;
 use crate::fault::LineFault;
 use room_model::LONGEST_TIME;
 use schema_model::{Pair, RefNum, Tag};
-use schema_reader::decimal::{read_below, read_decimal, read_tag};
-use schema_reader::names::is_word;
+use text_words::{is_word, read_below, read_byte, read_decimal, read_within};
 
 /// A number of 64 bits.
 pub fn read_number(word: &[u8]) -> Result<u64, LineFault>
@@ -35,7 +33,7 @@ pub fn read_ref(word: &[u8]) -> Result<u32, LineFault>
 pub fn read_field(word: &[u8]) -> Result<u8, LineFault>
     ensures { Reads result (field_of_word word.now) }
 {
-    read_tag(word).ok_or(LineFault::NotOfForm)
+    read_byte(word).ok_or(LineFault::NotOfForm)
 }
 
 /// The code of a kick: 1000, or 4000 to 4999.
@@ -62,7 +60,7 @@ pub fn read_view_tag(word: &[u8]) -> Result<Tag, LineFault>
     if is_word(word, "-1") {
         return Ok(Tag(-1));
     }
-    match read_tag(word) {
+    match read_byte(word) {
         Some(number) => Ok(Tag(i16::from(number))),
         None => Err(LineFault::NotOfForm),
     }

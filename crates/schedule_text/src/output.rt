@@ -8,28 +8,24 @@ ghost use Rattle.text_model.specs.Lines.{both, passing, some_if, words_of};
 ghost use Rattle.text_model.specs.Marks.{is_room_name};
 ghost use Rattle.text_model.specs.OutLines.{is_one_line, long_out, middle_out, out_of, plain_out, refusal_of, short_out};
 ghost use Rattle.schedule_text.specs.Reads.{Reads};
-ghost use Rattle.schedule_text.specs.Cuts.{replied};
-ghost use Rattle.schema_reader.specs.Words.{bytes_of};
+ghost use Rattle.schedule_text.specs.Tells.{replied};
+ghost use Rattle.text_words.specs.Words.{bytes_of};
 
 use crate::event::read_conn;
 use crate::fault::LineFault;
-use crate::lines::cut_word;
-use crate::names::is_room_name;
+use crate::hex::read_hex;
 use crate::number::read_ref;
 use crate::print::refusal_text;
-use crate::words::{read_hex, read_kind, read_name, text_of};
+use crate::words::{read_kind, read_name, text_of};
 use hub_model::HubOut;
 use lists::Text;
 use room_model::Refusal;
 use schema_model::RefNum;
-use schema_reader::decimal::read_below;
-use schema_reader::line::first_words;
-use schema_reader::names::is_word;
-use schema_reader::words::name_text;
 use state_model::TableFault;
 use std::alloc::Global;
+use text_words::{cut_word, first_words, is_room_name, is_word, name_text, read_below};
 
-/// The refusals that come out of a hub. Want of memory doesn't.
+/// The refusals that come out of a hub. Out of memory doesn't.
 const REFUSALS: [Refusal; 21] = [
     Refusal::NoRoom,
     Refusal::NoConn,

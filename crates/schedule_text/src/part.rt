@@ -1,18 +1,17 @@
 //! The schema with which a text begins.
 ghost use Rattle.std.specs.Prelude.{◌≡◌, ◌<◌, ◌-◌, ◌^◌, length, IfOk};
 ghost use Rattle.text_model.specs.SchemaReading.{line_form};
-ghost use Rattle.schema_reader.specs.Words.{bytes_of};
-ghost use Rattle.schedule_text.specs.Cuts.{IsEnd, IsPart, told_fault};
+ghost use Rattle.text_words.specs.Words.{bytes_of};
+ghost use Rattle.schedule_text.specs.Tells.{IsEnd, IsPart, told_fault};
 ghost use Rattle.text_model.specs.Schedules.{is_root_form, is_root_line};
 
-use crate::lines::next_line;
 use lists::Memory;
 use schema_model::Schema;
 use schema_reader::form::{Form, line_form};
-use schema_reader::line::first_words;
 use schema_reader::read_schema;
 use std::alloc::Global;
 use text_model::{ScheduleFault, SchemaFault, Word};
+use text_words::{first_words, next_line};
 
 /// How many words of a line are looked at: a schema's line has six at most, so a seventh tells that a line is none.
 const MOST_WORDS: usize = 7;

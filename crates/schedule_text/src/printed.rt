@@ -3,16 +3,15 @@ ghost use Rattle.std.specs.Prelude.{◌≡◌, ◌+◌, ◌<◌, ◌-◌, ◌^�
 ghost use Rattle.text_model.specs.declared.schedule.Print.{Print as PrintOf};
 ghost use Rattle.text_model.specs.Lines.{behind_lines, lines_in};
 ghost use Rattle.text_model.specs.OutLines.{IsPrintText, outs_from, read_print_text};
-ghost use Rattle.schedule_text.specs.Cuts.{IsAnswer, Tells};
+ghost use Rattle.schedule_text.specs.Tells.{IsAnswer, Tells};
 
-use crate::lines::next_line;
 use crate::output::read_out;
 use crate::part::read_schema_part;
 use crate::schedule::{at_end, breaks_off, fault_of};
 use lists::Seq;
-use schema_reader::names::is_word;
 use std::alloc::Global;
 use text_model::{Print, PrintLines, ScheduleFault, Word};
+use text_words::{is_word, next_line};
 
 /// Outputs from a line of a number on, each with its number, up to `end`.
 fn read_outs(alloc: Global, first: u32, text: &[u8]) -> Result<PrintLines, ScheduleFault>

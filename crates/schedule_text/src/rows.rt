@@ -2,7 +2,7 @@
 ghost use Rattle.std.specs.Prelude.{◌≡◌, ◌++◌, ◌∷◌, [], OnOk, OnErr, map};
 ghost use Rattle.std.specs.Fmt.{decimal};
 ghost use Rattle.std.specs.Io.{StartsWith};
-ghost use Rattle.schema_reader.specs.Words.{behind};
+ghost use Rattle.text_words.specs.Words.{behind};
 ghost use Rattle.state_model.specs.declared.row.Row.TheVariants.{Array, Map, Set, Struct};
 ghost use Rattle.text_model.specs.Marks.{line, spaced};
 ghost use Rattle.text_model.specs.RowLines.{field_word, home_word, map_item_word, row_words, rows_text, set_item_word, words_of_row};
@@ -19,7 +19,7 @@ use state_model::{
 };
 
 /// Appends a word behind a byte.
-#[tactic(auto, using(lists::proofs::Fronts::starts_after, lists::proofs::Fronts::starts_with_front))]
+#[tactic(auto, using(lists::proofs::Prefixes::starts_after, lists::proofs::Prefixes::starts_with_prefix))]
 fn append_behind(out: &mut Vec<u8>, byte: u8, word: Word) -> Result<(), Memory>
     ensures ok { OnOk result (out.new.items ≡ out.old.items ++ byte ∷ word_text word.entry) }
     ensures err { OnErr result (StartsWith out.new.items out.old.items) }
@@ -29,7 +29,7 @@ fn append_behind(out: &mut Vec<u8>, byte: u8, word: Word) -> Result<(), Memory>
 }
 
 /// Appends ` NUMBER=VALUE`.
-#[tactic(auto, using(lists::proofs::Fronts::starts_after, lists::proofs::Fronts::starts_with_front))]
+#[tactic(auto, using(lists::proofs::Prefixes::starts_after, lists::proofs::Prefixes::starts_with_prefix))]
 fn append_item(out: &mut Vec<u8>, number: u32, value: &Value) -> Result<(), Memory>
     ensures ok { OnOk result (out.new.items ≡ out.old.items ++ 32 ∷ set_item_word (record { number = number; value = value.now })) }
     ensures err { OnErr result (StartsWith out.new.items out.old.items) }
@@ -39,7 +39,7 @@ fn append_item(out: &mut Vec<u8>, number: u32, value: &Value) -> Result<(), Memo
 }
 
 /// Appends ` NUMBER:KEY=VALUE`.
-#[tactic(auto, using(lists::proofs::Fronts::starts_after, lists::proofs::Fronts::starts_with_front))]
+#[tactic(auto, using(lists::proofs::Prefixes::starts_after, lists::proofs::Prefixes::starts_with_prefix))]
 fn append_map_item(out: &mut Vec<u8>, item: &MapItem) -> Result<(), Memory>
     ensures ok { OnOk result (out.new.items ≡ out.old.items ++ 32 ∷ map_item_word item.now) }
     ensures err { OnErr result (StartsWith out.new.items out.old.items) }
@@ -50,7 +50,7 @@ fn append_map_item(out: &mut Vec<u8>, item: &MapItem) -> Result<(), Memory>
 }
 
 /// Appends ` NUMBER TYPE` or the like.
-#[tactic(auto, using(lists::proofs::Fronts::starts_after, lists::proofs::Fronts::starts_with_front))]
+#[tactic(auto, using(lists::proofs::Prefixes::starts_after, lists::proofs::Prefixes::starts_with_prefix))]
 fn append_numbers(out: &mut Vec<u8>, a: u32, b: u32) -> Result<(), Memory>
     ensures ok { OnOk result (out.new.items ≡ out.old.items ++ behind (decimal a ∷ decimal b ∷ [])) }
     ensures err { OnErr result (StartsWith out.new.items out.old.items) }
@@ -60,7 +60,7 @@ fn append_numbers(out: &mut Vec<u8>, a: u32, b: u32) -> Result<(), Memory>
 }
 
 /// Appends ` TYPE.FIELD`, behind the number of the row.
-#[tactic(auto, using(lists::proofs::Fronts::starts_after, lists::proofs::Fronts::starts_with_front))]
+#[tactic(auto, using(lists::proofs::Prefixes::starts_after, lists::proofs::Prefixes::starts_with_prefix))]
 fn append_home(out: &mut Vec<u8>, who: u32, home: Home) -> Result<(), Memory>
     ensures ok { OnOk result (out.new.items ≡ out.old.items ++ behind (decimal who ∷ home_word home ∷ [])) }
     ensures err { OnErr result (StartsWith out.new.items out.old.items) }
@@ -70,7 +70,7 @@ fn append_home(out: &mut Vec<u8>, who: u32, home: Home) -> Result<(), Memory>
 }
 
 /// Appends the fields of an instance, each behind a space.
-#[tactic(auto, using(lists::proofs::Fronts::starts_after, lists::proofs::Fronts::starts_with_front))]
+#[tactic(auto, using(lists::proofs::Prefixes::starts_after, lists::proofs::Prefixes::starts_with_prefix))]
 fn append_fields(out: &mut Vec<u8>, fields: &[FieldValue]) -> Result<(), Memory>
     ensures ok { OnOk result (out.new.items ≡ out.old.items ++ behind (map field_word fields.now)) }
     ensures err { OnErr result (StartsWith out.new.items out.old.items) }
@@ -82,7 +82,7 @@ fn append_fields(out: &mut Vec<u8>, fields: &[FieldValue]) -> Result<(), Memory>
 }
 
 /// Appends the items of a map, each behind a space.
-#[tactic(auto, using(lists::proofs::Fronts::starts_after, lists::proofs::Fronts::starts_with_front))]
+#[tactic(auto, using(lists::proofs::Prefixes::starts_after, lists::proofs::Prefixes::starts_with_prefix))]
 fn append_map_items(out: &mut Vec<u8>, items: &[MapItem]) -> Result<(), Memory>
     ensures ok { OnOk result (out.new.items ≡ out.old.items ++ behind (map map_item_word items.now)) }
     ensures err { OnErr result (StartsWith out.new.items out.old.items) }
@@ -94,7 +94,7 @@ fn append_map_items(out: &mut Vec<u8>, items: &[MapItem]) -> Result<(), Memory>
 }
 
 /// Appends the items of an array, each behind a space.
-#[tactic(auto, using(lists::proofs::Fronts::starts_after, lists::proofs::Fronts::starts_with_front))]
+#[tactic(auto, using(lists::proofs::Prefixes::starts_after, lists::proofs::Prefixes::starts_with_prefix))]
 fn append_values(out: &mut Vec<u8>, values: &[Value]) -> Result<(), Memory>
     ensures ok { OnOk result (out.new.items ≡ out.old.items ++ behind (map value_word values.now)) }
     ensures err { OnErr result (StartsWith out.new.items out.old.items) }
@@ -106,7 +106,7 @@ fn append_values(out: &mut Vec<u8>, values: &[Value]) -> Result<(), Memory>
 }
 
 /// Appends the items of a set, each behind a space.
-#[tactic(auto, using(lists::proofs::Fronts::starts_after, lists::proofs::Fronts::starts_with_front))]
+#[tactic(auto, using(lists::proofs::Prefixes::starts_after, lists::proofs::Prefixes::starts_with_prefix))]
 fn append_set_items(out: &mut Vec<u8>, items: &[SetItem]) -> Result<(), Memory>
     ensures ok { OnOk result (out.new.items ≡ out.old.items ++ behind (map set_item_word items.now)) }
     ensures err { OnErr result (StartsWith out.new.items out.old.items) }
@@ -118,7 +118,7 @@ fn append_set_items(out: &mut Vec<u8>, items: &[SetItem]) -> Result<(), Memory>
 }
 
 /// Appends the words of an instance. An `Err` may leave a part of them.
-#[tactic(auto, using(lists::proofs::Fronts::starts_after, lists::proofs::Fronts::starts_with_front))]
+#[tactic(auto, using(lists::proofs::Prefixes::starts_after, lists::proofs::Prefixes::starts_with_prefix))]
 fn append_struct(
     out: &mut Vec<u8>,
     who: u32,
@@ -135,7 +135,7 @@ fn append_struct(
 }
 
 /// Appends the words of a map. An `Err` may leave a part of them.
-#[tactic(auto, using(lists::proofs::Fronts::starts_after, lists::proofs::Fronts::starts_with_front))]
+#[tactic(auto, using(lists::proofs::Prefixes::starts_after, lists::proofs::Prefixes::starts_with_prefix))]
 fn append_map(out: &mut Vec<u8>, who: u32, home: Home, items: &MapItems) -> Result<(), Memory>
     ensures ok { OnOk result (out.new.items ≡ out.old.items ++ spaced (words_of_row who (Map home items.now))) }
     ensures err { OnErr result (StartsWith out.new.items out.old.items) }
@@ -147,7 +147,7 @@ fn append_map(out: &mut Vec<u8>, who: u32, home: Home, items: &MapItems) -> Resu
 }
 
 /// Appends the words of an array. An `Err` may leave a part of them.
-#[tactic(auto, using(lists::proofs::Fronts::starts_after, lists::proofs::Fronts::starts_with_front))]
+#[tactic(auto, using(lists::proofs::Prefixes::starts_after, lists::proofs::Prefixes::starts_with_prefix))]
 fn append_array(out: &mut Vec<u8>, who: u32, home: Home, values: &Values) -> Result<(), Memory>
     ensures ok { OnOk result (out.new.items ≡ out.old.items ++ spaced (words_of_row who (Array home values.now))) }
     ensures err { OnErr result (StartsWith out.new.items out.old.items) }
@@ -159,7 +159,7 @@ fn append_array(out: &mut Vec<u8>, who: u32, home: Home, values: &Values) -> Res
 }
 
 /// Appends the words of a set. An `Err` may leave a part of them.
-#[tactic(auto, using(lists::proofs::Fronts::starts_after, lists::proofs::Fronts::starts_with_front))]
+#[tactic(auto, using(lists::proofs::Prefixes::starts_after, lists::proofs::Prefixes::starts_with_prefix))]
 fn append_set(out: &mut Vec<u8>, who: u32, home: Home, items: &SetItems) -> Result<(), Memory>
     ensures ok { OnOk result (out.new.items ≡ out.old.items ++ spaced (words_of_row who (Set home items.now))) }
     ensures err { OnErr result (StartsWith out.new.items out.old.items) }
@@ -184,7 +184,7 @@ fn append_row(out: &mut Vec<u8>, who: u32, row: &Row) -> Result<(), Memory>
 }
 
 /// Appends the line of a row. An `Err` may leave a part of it.
-#[tactic(auto, using(lists::proofs::Fronts::starts_after, lists::proofs::Fronts::starts_with_front))]
+#[tactic(auto, using(lists::proofs::Prefixes::starts_after, lists::proofs::Prefixes::starts_with_prefix))]
 fn append_entry(out: &mut Vec<u8>, entry: &RowEntry) -> Result<(), Memory>
     ensures ok { OnOk result (out.new.items ≡ out.old.items ++ line (row_words entry.now)) }
     ensures err { OnErr result (StartsWith out.new.items out.old.items) }
@@ -195,7 +195,7 @@ fn append_entry(out: &mut Vec<u8>, entry: &RowEntry) -> Result<(), Memory>
 }
 
 /// Appends the lines of rows. An `Err` may leave a part of them.
-#[tactic(auto, using(lists::proofs::Fronts::starts_after, lists::proofs::Fronts::starts_with_front))]
+#[tactic(auto, using(lists::proofs::Prefixes::starts_after, lists::proofs::Prefixes::starts_with_prefix))]
 fn append_rows(out: &mut Vec<u8>, rows: &[RowEntry]) -> Result<(), Memory>
     ensures ok { OnOk result (out.new.items ≡ out.old.items ++ rows_text rows.now) }
     ensures err { OnErr result (StartsWith out.new.items out.old.items) }

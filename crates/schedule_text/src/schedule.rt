@@ -4,24 +4,22 @@ ghost use Rattle.text_model.specs.declared.schedule.Schedule.{Schedule as Schedu
 ghost use Rattle.text_model.specs.DefLines.{next_def};
 ghost use Rattle.text_model.specs.Lines.{behind_lines, lines_in, words_of};
 ghost use Rattle.text_model.specs.Schedules.{at_end, breaks_off, events_from, first_word, heading_from, is_opened, process_of, read_schedule_text, room_word, rooms_from, IsScheduleText};
-ghost use Rattle.schedule_text.specs.Cuts.{IsAnswer, Tells, fault_at, line_fault, parts_of};
+ghost use Rattle.schedule_text.specs.Tells.{IsAnswer, Tells, fault_at, line_fault, parts_of};
 ghost use Rattle.schedule_text.specs.Reads.{Reads};
-ghost use Rattle.schema_reader.specs.Words.{bytes_of};
+ghost use Rattle.text_words.specs.Words.{bytes_of};
 
 use crate::def::next_def;
 use crate::event::read_event;
 use crate::fault::LineFault;
-use crate::lines::{cut_word, next_line};
 use crate::part::read_schema_part;
 use crate::words::read_name;
 use hub_model::Events;
 use lists::Seq;
 use room_model::{Defs, RoomDef};
 use schema_model::{Id, Schema};
-use schema_reader::line::first_words;
-use schema_reader::names::is_word;
 use std::alloc::Global;
 use text_model::{Schedule, ScheduleFault, Word};
+use text_words::{cut_word, first_words, is_word, next_line};
 
 /// The fault of a line: it isn't of its form, or memory ran out.
 pub fn fault_of(fault: LineFault, number: u32, word: Word) -> ScheduleFault

@@ -477,8 +477,8 @@ fn prints_rows(rt: HostRuntime) -> Result<(), Fail> {
     let rows = some_rows(rt.alloc())?;
     let mut out = Vec::new(rt.alloc());
     print_rows(&mut out, &rows)?;
-    let wanted =
+    let expected =
         "struct 0 4 0=-5 3=#1\nmap 1 0.2 2:'a%20b=true\narray 5 0.2 '%25 false\nset 9 0.2 0=7\n";
-    assert!(rt; out.as_slice() == wanted.as_bytes());
+    assert!(rt; out.as_slice() == expected.as_bytes());
     Ok(())
 }

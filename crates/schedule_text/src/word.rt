@@ -3,14 +3,13 @@ ghost use Rattle.std.specs.Prelude.{◌≡◌, ◌++◌, ◌∷◌, [], ◌<◌,
 ghost use Rattle.std.specs.Fmt.{decimal};
 ghost use Rattle.std.specs.Io.{StartsWith};
 ghost use Rattle.std.specs.List.{flat_map};
-ghost use Rattle.text_model.specs.Decimals.{signed_text};
-ghost use Rattle.text_model.specs.Marks.{escape_digit, escaped, hex_word, line, quoted, spaced};
+ghost use Rattle.text_model.specs.Marks.{escape_digit, escaped, line, quoted, spaced};
 ghost use Rattle.text_model.specs.WordForms.{plain};
 ghost use Rattle.schedule_text.specs.Words.{word_text, word_texts};
 
-use itoa::Buffer;
+use crate::hex::append_hex;
 use lists::Memory;
-use schema_reader::names::is_word;
+use text_words::{append_decimal, append_signed, append_whole, is_word};
 
 /// A word of a line, by its form.
 #[derive(Clone, Copy)]
@@ -31,50 +30,6 @@ pub enum Word<'a> {
     Quoted(&'a [u8]),
     /// Bytes with their escapes.
     Escaped(&'a [u8]),
-}
-
-/// Appends a decimal.
-fn append_decimal(out: &mut Vec<u8>, number: u64) -> Result<(), Memory>
-    ensures ok { OnOk result (out.new.items ≡ out.old.items ++ decimal number) }
-    ensures err { OnErr result (out.new.items ≡ out.old.items) }
-{
-    let mut buffer = Buffer::new();
-    out.extend_from_slice(buffer.format(number).as_bytes())?;
-    Ok(())
-}
-
-/// Appends a decimal, with `-` before it where the number is below 0.
-fn append_signed(out: &mut Vec<u8>, number: i32) -> Result<(), Memory>
-    ensures ok { OnOk result (out.new.items ≡ out.old.items ++ signed_text number) }
-    ensures err { OnErr result (out.new.items ≡ out.old.items) }
-{
-    let mut buffer = Buffer::new();
-    out.extend_from_slice(buffer.format(number).as_bytes())?;
-    Ok(())
-}
-
-/// Appends a decimal of up to 128 bits, with `-` before it where the number is below 0.
-fn append_whole(out: &mut Vec<u8>, number: i128) -> Result<(), Memory>
-    ensures ok { OnOk result (out.new.items ≡ out.old.items ++ signed_text number) }
-    ensures err { OnErr result (out.new.items ≡ out.old.items) }
-{
-    let mut buffer = Buffer::new();
-    out.extend_from_slice(buffer.format(number).as_bytes())?;
-    Ok(())
-}
-
-/// Appends bytes in hex, by way of a text of its own.
-pub fn append_hex(out: &mut Vec<u8>, bytes: &[u8]) -> Result<(), Memory>
-    ensures ok { OnOk result (out.new.items ≡ out.old.items ++ hex_word bytes.now) }
-    ensures err { OnErr result (out.new.items ≡ out.old.items) }
-{
-    if bytes.is_empty() {
-        out.push(b'-')?;
-        return Ok(());
-    }
-    let digits = hex::encode(*out.allocator(), bytes)?;
-    out.extend_from_slice(digits.as_bytes())?;
-    Ok(())
 }
 
 /// The hex digit of a number below 16 in an escape.
@@ -103,7 +58,7 @@ fn append_escaped(out: &mut Vec<u8>, byte: u8) -> Result<(), Memory>
 }
 
 /// Appends a text with its escapes. An `Err` may leave a part of it.
-#[tactic(auto, using(lists::proofs::Fronts::starts_after, lists::proofs::Fronts::starts_with_front))]
+#[tactic(auto, using(lists::proofs::Prefixes::starts_after, lists::proofs::Prefixes::starts_with_prefix))]
 fn append_escapes(out: &mut Vec<u8>, text: &[u8]) -> Result<(), Memory>
     ensures ok { OnOk result (out.new.items ≡ out.old.items ++ flat_map escaped text.now) }
     ensures err { OnErr result (StartsWith out.new.items out.old.items) }
@@ -115,7 +70,7 @@ fn append_escapes(out: &mut Vec<u8>, text: &[u8]) -> Result<(), Memory>
 }
 
 /// Appends a quoted word. An `Err` may leave a part of it.
-#[tactic(auto, using(lists::proofs::Fronts::starts_after, lists::proofs::Fronts::starts_with_front))]
+#[tactic(auto, using(lists::proofs::Prefixes::starts_after, lists::proofs::Prefixes::starts_with_prefix))]
 pub fn append_quoted(out: &mut Vec<u8>, text: &[u8]) -> Result<(), Memory>
     ensures ok { OnOk result (out.new.items ≡ out.old.items ++ quoted text.now) }
     ensures err { OnErr result (StartsWith out.new.items out.old.items) }
@@ -125,7 +80,7 @@ pub fn append_quoted(out: &mut Vec<u8>, text: &[u8]) -> Result<(), Memory>
 }
 
 /// Appends a plain word. An `Err` may leave a part of it.
-#[tactic(auto, using(lists::proofs::Fronts::starts_after, lists::proofs::Fronts::starts_with_front))]
+#[tactic(auto, using(lists::proofs::Prefixes::starts_after, lists::proofs::Prefixes::starts_with_prefix))]
 pub fn append_plain(out: &mut Vec<u8>, bytes: &[u8]) -> Result<(), Memory>
     ensures ok { OnOk result (out.new.items ≡ out.old.items ++ plain bytes.now) }
     ensures err { OnErr result (StartsWith out.new.items out.old.items) }
@@ -140,7 +95,7 @@ pub fn append_plain(out: &mut Vec<u8>, bytes: &[u8]) -> Result<(), Memory>
 }
 
 /// Appends the number of a row, behind `#`. An `Err` may leave a part of it.
-#[tactic(auto, using(lists::proofs::Fronts::starts_after, lists::proofs::Fronts::starts_with_front))]
+#[tactic(auto, using(lists::proofs::Prefixes::starts_after, lists::proofs::Prefixes::starts_with_prefix))]
 fn append_link(out: &mut Vec<u8>, number: u32) -> Result<(), Memory>
     ensures ok { OnOk result (out.new.items ≡ out.old.items ++ 35 ∷ decimal number) }
     ensures err { OnErr result (StartsWith out.new.items out.old.items) }
@@ -167,7 +122,7 @@ pub fn append_word(out: &mut Vec<u8>, word: Word) -> Result<(), Memory>
 }
 
 /// Appends a line. An `Err` may leave a part of it.
-#[tactic(auto, using(lists::proofs::Fronts::starts_after, lists::proofs::Fronts::starts_with_front))]
+#[tactic(auto, using(lists::proofs::Prefixes::starts_after, lists::proofs::Prefixes::starts_with_prefix))]
 fn append_words(out: &mut Vec<u8>, words: &[Word]) -> Result<(), Memory>
     ensures ok { OnOk result (out.new.items ≡ out.old.items ++ line (word_texts words.now)) }
     ensures err { OnErr result (StartsWith out.new.items out.old.items) }

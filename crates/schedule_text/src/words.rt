@@ -1,23 +1,20 @@
-//! Words for texts, bytes, values and message kinds.
+//! Words for texts, values and message kinds.
 ghost use Rattle.std.specs.Prelude.{◌≡◌, ◌<◌, ◌^◌, Some, IfOk, true};
 ghost use Rattle.percent_encoding.specs.Percent.{percent_decode as decoded_of};
 ghost use Rattle.text_model.specs.Lines.{passing};
-ghost use Rattle.text_model.specs.WordForms.{are_bytes, hex_of, id_of, is_text, kind_of, plain_bytes, plain_of, plain_text_of, quoted_of, truth_of, value_of};
-ghost use Rattle.schedule_text.specs.Reads.{Reads, hex_fault};
+ghost use Rattle.text_model.specs.WordForms.{are_bytes, id_of, is_text, kind_of, plain_bytes, plain_of, plain_text_of, quoted_of, truth_of, value_of};
+ghost use Rattle.schedule_text.specs.Reads.{Reads};
 
-use crate::decimal::{read_signed, read_whole};
 use crate::fault::LineFault;
-use crate::names::read_id;
 use crate::number::read_ref;
-use crate::word::{append_hex, append_plain, append_quoted};
+use crate::word::{append_plain, append_quoted};
 use frame_model::MsgKind;
-use hex::FromHexError;
 use lists::{Bytes, Memory, Text, TextFault};
 use percent_encoding::percent_decode;
 use room_model::is_short_kind;
 use schema_model::{Id, RefNum, Value};
-use schema_reader::names::is_word;
 use std::alloc::Global;
+use text_words::{is_word, read_id, read_signed, read_whole};
 
 /// Bytes are below 256. It does nothing else than to say so.
 fn know_bytes(bytes: &[u8])
@@ -94,39 +91,6 @@ pub fn read_quoted(alloc: Global, word: &[u8]) -> Result<Text, LineFault>
         return Err(LineFault::NotOfForm);
     }
     text_of(alloc, &bytes)
-}
-
-/// Why a word isn't decoded.
-fn hex_fault(fault: FromHexError) -> LineFault
-    ensures { result ≡ hex_fault fault }
-{
-    match fault {
-        FromHexError::OutOfMemory => LineFault::Memory,
-        FromHexError::InvalidHexCharacter { .. }
-        | FromHexError::OddLength
-        | FromHexError::InvalidStringLength => LineFault::NotOfForm,
-    }
-}
-
-/// The bytes of a word in hex: it is the one word of them.
-pub fn read_hex(alloc: Global, word: &[u8]) -> Result<Bytes, LineFault>
-    ensures { Reads result (hex_of word.now) }
-{
-    if is_word(word, "-") {
-        return Ok(Bytes::from_vec(Vec::new(alloc)));
-    }
-    let bytes = match hex::decode(alloc, word) {
-        Ok(bytes) => bytes,
-        Err(fault) => return Err(hex_fault(fault)),
-    };
-    know_bytes(&bytes);
-    let mut spelled = Vec::new(alloc);
-    append_hex(&mut spelled, &bytes)?;
-    if spelled.as_slice() == word {
-        Ok(Bytes::from_vec(bytes))
-    } else {
-        Err(LineFault::NotOfForm)
-    }
 }
 
 /// The id that a word is.

@@ -360,7 +360,7 @@ fn append_def(alloc: Global, out: &mut Vec<u8>, def: &RoomDef) -> Result<(), Mem
 }
 
 /// Appends the lines of definitions of rooms. An `Err` may leave some of them.
-#[tactic(auto, using(lists::proofs::Fronts::starts_after, lists::proofs::Fronts::starts_with_front))]
+#[tactic(auto, using(lists::proofs::Prefixes::starts_after, lists::proofs::Prefixes::starts_with_prefix))]
 fn append_defs(alloc: Global, out: &mut Vec<u8>, defs: &[RoomDef]) -> Result<(), Memory>
     ensures ok { OnOk result (out.new.items ≡ out.old.items ++ lines (map def_words defs.now)) }
     ensures err { OnErr result (StartsWith out.new.items out.old.items) }
@@ -372,7 +372,7 @@ fn append_defs(alloc: Global, out: &mut Vec<u8>, defs: &[RoomDef]) -> Result<(),
 }
 
 /// Appends the schema's lines, and those of the process and of the definitions. An `Err` may leave some of them.
-#[tactic(auto, using(lists::proofs::Fronts::starts_after, lists::proofs::Fronts::starts_with_front))]
+#[tactic(auto, using(lists::proofs::Prefixes::starts_after, lists::proofs::Prefixes::starts_with_prefix))]
 fn append_heading(out: &mut Vec<u8>, schedule: &Schedule) -> Result<(), Memory>
     ensures ok { OnOk result (out.new.items ≡ out.old.items ++ heading_text schedule.now) }
     ensures err { OnErr result (StartsWith out.new.items out.old.items) }

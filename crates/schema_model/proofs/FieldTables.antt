@@ -19,10 +19,10 @@ fields_next earlier c = inherited earlier c.parent ++ map (declared_by (length e
 
 -- ---- places in lists
 
-pub at_front : {A : Type 0} (xs ys : List A) (i : ℕ) → i < length xs → slice_get (xs ++ ys) i ≡ slice_get xs i
-at_front [] ys i h = absurd (omega arith)
-at_front (x ∷ xs) ys zero h = refl
-at_front (x ∷ xs) ys (suc i) h = at_front xs ys i (omega arith)
+pub at_prefix : {A : Type 0} (xs ys : List A) (i : ℕ) → i < length xs → slice_get (xs ++ ys) i ≡ slice_get xs i
+at_prefix [] ys i h = absurd (omega arith)
+at_prefix (x ∷ xs) ys zero h = refl
+at_prefix (x ∷ xs) ys (suc i) h = at_prefix xs ys i (omega arith)
 
 pub behind : {A : Type 0} (xs ys : List A) (i k : ℕ) → k ≡ length xs + i → slice_get (xs ++ ys) k ≡ slice_get ys i
 behind [] ys i k h = let e : k ≡ i = omega arith in ap (slice_get ys) e
@@ -32,17 +32,17 @@ behind (x ∷ xs) ys i (suc k) h = behind xs ys i k (omega arith)
 -- ---- the table
 
 -- classes behind these change nothing of theirs
-kept_front : (earlier : List (List Declared)) (cs : List Class) (i : ℕ) → i < length earlier → slice_get (fields_from earlier cs) i ≡ slice_get earlier i
-kept_front earlier [] i h = refl
-kept_front earlier (c ∷ cs) i h =
+kept_prefix : (earlier : List (List Declared)) (cs : List Class) (i : ℕ) → i < length earlier → slice_get (fields_from earlier cs) i ≡ slice_get earlier i
+kept_prefix earlier [] i h = refl
+kept_prefix earlier (c ∷ cs) i h =
     let more : i < length (earlier ++ fields_next earlier c ∷ []) = omega (arith, length-append earlier (fields_next earlier c ∷ [])) in
-    kept_front (earlier ++ fields_next earlier c ∷ []) cs i more ∙ at_front earlier (fields_next earlier c ∷ []) i h
+    kept_prefix (earlier ++ fields_next earlier c ∷ []) cs i more ∙ at_prefix earlier (fields_next earlier c ∷ []) i h
 
 kept_inherited : (earlier : List (List Declared)) (cs : List Class) (p : Option ℕ) → is_earlier (length earlier) p ≡ true → inherited (fields_from earlier cs) p ≡ inherited earlier p
 kept_inherited earlier cs None h = refl
 kept_inherited earlier cs (Some p) h =
     let below : p < length earlier = grind (arith, nat_tests) in
-    ap (λ o. unwrap_or o []) (kept_front earlier cs p below)
+    ap (λ o. unwrap_or o []) (kept_prefix earlier cs p below)
 
 length-fields_from : (earlier : List (List Declared)) (cs : List Class) → length (fields_from earlier cs) ≡ length earlier + length cs
 length-fields_from earlier [] = omega arith
@@ -66,7 +66,7 @@ table_from earlier (c ∷ cs) zero n d w h e =
     let same : c ≡ d = grind arith in
     let more : length (earlier ++ fields_next earlier c ∷ []) ≡ suc (length earlier) = omega (arith, length-append earlier (fields_next earlier c ∷ [])) in
     let soon : is_earlier (length earlier) c.parent ≡ true = and_left _ (parents_earlier (suc (length earlier)) cs) h in
-    let kept = kept_front (earlier ++ fields_next earlier c ∷ []) cs (length earlier) (omega arith) in
+    let kept = kept_prefix (earlier ++ fields_next earlier c ∷ []) cs (length earlier) (omega arith) in
     let found = behind earlier (fields_next earlier c ∷ []) 0 (length earlier) (omega arith) in
     let up = kept_inherited earlier (c ∷ cs) c.parent soon in
     rw (here, ← same) (kept ∙ found ∙ ap (λ fs. Some (fs ++ map (declared_by (length earlier)) c.own)) (sym up))
@@ -146,9 +146,9 @@ pub own_part : (cs : List Class) (n : ℕ) (c : Class) (index : ℕ) → parents
 own_part cs n c index h e behind_them =
     ap (λ fs. slice_get fs index) (line_fields cs n c h e) ∙ behind (inherited (fields_from [] cs) c.parent) (map (declared_by n) c.own) _ index (omega arith)
 
--- its parent's stand in front
+-- its parent's stand first
 pub inherited_part : (cs : List Class) (n : ℕ) (c : Class) (index : ℕ) → parents_earlier 0 cs ≡ true → slice_get cs n ≡ Some c →
     index < length (inherited (fields_from [] cs) c.parent) →
     slice_get (inherited (fields_from [] cs) (Some n)) index ≡ slice_get (inherited (fields_from [] cs) c.parent) index
 inherited_part cs n c index h e among =
-    ap (λ fs. slice_get fs index) (line_fields cs n c h e) ∙ at_front (inherited (fields_from [] cs) c.parent) (map (declared_by n) c.own) index among
+    ap (λ fs. slice_get fs index) (line_fields cs n c h e) ∙ at_prefix (inherited (fields_from [] cs) c.parent) (map (declared_by n) c.own) index among

@@ -1,8 +1,10 @@
 pub mod ClassRows
 pub mod FieldCounts
 pub mod FieldTables
+pub mod IdLaws
 pub mod KindLines
 pub mod NumberAgain
 pub mod ScalarAgain
 pub mod ScalarRows
+pub mod Signed
 pub mod Within

@@ -13,30 +13,30 @@ use Rattle.schema_model.specs.Fits.{in_signed}
 -- ---- fixed widths
 
 -- a part of the right length between two lists is read as its number
-pub fixed_part : (w : Width) (front part more : List ℕ) → length part ≡ byte_len w → fixed_at w (front ++ (part ++ more)) (length front) ≡ Ok (from_le_bytes w part, length front + byte_len w)
-fixed_part w front part more e =
-    let d = drop_at front (part ++ more) (length front) refl in
+pub fixed_part : (w : Width) (prefix part more : List ℕ) → length part ≡ byte_len w → fixed_at w (prefix ++ (part ++ more)) (length prefix) ≡ Ok (from_le_bytes w part, length prefix + byte_len w)
+fixed_part w prefix part more e =
+    let d = drop_at prefix (part ++ more) (length prefix) refl in
     let t = take_at part more (byte_len w) e in
-    let l : length (front ++ (part ++ more)) ≡ length front + (byte_len w + length more) =
-    omega (arith, length-append front (part ++ more), length-append part more, e) in
-    let fits : ltb (length (front ++ (part ++ more))) (length front + byte_len w) ≡ false = grind (arith, nat_tests) in
+    let l : length (prefix ++ (part ++ more)) ≡ length prefix + (byte_len w + length more) =
+    omega (arith, length-append prefix (part ++ more), length-append part more, e) in
+    let fits : ltb (length (prefix ++ (part ++ more))) (length prefix + byte_len w) ≡ false = grind (arith, nat_tests) in
     rw (fits, d, t) refl
 
 -- a number written in one byte is read again
-pub fixed_again_8 : (front more : List ℕ) (n : ℕ) → n < 2 ^ 8 → fixed_at w8 (front ++ (to_le_bytes w8 n ++ more)) (length front) ≡ Ok (n, length front + byte_len w8)
-fixed_again_8 front more n h =
+pub fixed_again_8 : (prefix more : List ℕ) (n : ℕ) → n < 2 ^ 8 → fixed_at w8 (prefix ++ (to_le_bytes w8 n ++ more)) (length prefix) ≡ Ok (n, length prefix + byte_len w8)
+fixed_again_8 prefix more n h =
     let e : from_le_bytes w8 (to_le_bytes w8 n) ≡ n = omega arith in
-    fixed_part w8 front (to_le_bytes w8 n) more refl ∙ ap (λ x. Ok (x, length front + byte_len w8)) e
+    fixed_part w8 prefix (to_le_bytes w8 n) more refl ∙ ap (λ x. Ok (x, length prefix + byte_len w8)) e
 
 -- a number written in two bytes is read again
-pub fixed_again_16 : (front more : List ℕ) (n : ℕ) → n < 2 ^ 16 → fixed_at w16 (front ++ (to_le_bytes w16 n ++ more)) (length front) ≡ Ok (n, length front + byte_len w16)
-fixed_again_16 front more n h =
-    fixed_part w16 front (to_le_bytes w16 n) more refl ∙ ap (λ x. Ok (x, length front + byte_len w16)) (from_le_bytes-to_le_bytes_2 n h)
+pub fixed_again_16 : (prefix more : List ℕ) (n : ℕ) → n < 2 ^ 16 → fixed_at w16 (prefix ++ (to_le_bytes w16 n ++ more)) (length prefix) ≡ Ok (n, length prefix + byte_len w16)
+fixed_again_16 prefix more n h =
+    fixed_part w16 prefix (to_le_bytes w16 n) more refl ∙ ap (λ x. Ok (x, length prefix + byte_len w16)) (from_le_bytes-to_le_bytes_2 n h)
 
 -- a number written in four bytes is read again
-pub fixed_again_32 : (front more : List ℕ) (n : ℕ) → n < 2 ^ 32 → fixed_at w32 (front ++ (to_le_bytes w32 n ++ more)) (length front) ≡ Ok (n, length front + byte_len w32)
-fixed_again_32 front more n h =
-    fixed_part w32 front (to_le_bytes w32 n) more refl ∙ ap (λ x. Ok (x, length front + byte_len w32)) (from_le_bytes-to_le_bytes_4 n h)
+pub fixed_again_32 : (prefix more : List ℕ) (n : ℕ) → n < 2 ^ 32 → fixed_at w32 (prefix ++ (to_le_bytes w32 n ++ more)) (length prefix) ≡ Ok (n, length prefix + byte_len w32)
+fixed_again_32 prefix more n h =
+    fixed_part w32 prefix (to_le_bytes w32 n) more refl ∙ ap (λ x. Ok (x, length prefix + byte_len w32)) (from_le_bytes-to_le_bytes_4 n h)
 
 -- two's complement, back to the negative number
 pub cast_again : (w : Width) (n m : ℕ) → n < 2 ^ hbits w → m + suc n ≡ 2 ^ bits w → cast_signed w m ≡ negsuc n
@@ -48,76 +48,76 @@ cast_again w n m h e =
 -- ---- a first byte, then a fixed width
 
 -- a part is read behind a first byte as behind a list that ends in it
-pub behind_first : (w : Width) (front part more : List ℕ) (first n : ℕ) → fixed_at w ((front ++ first ∷ []) ++ (part ++ more)) (length (front ++ first ∷ [])) ≡ Ok (n, length (front ++ first ∷ []) + byte_len w) → fixed_at w (front ++ first ∷ (part ++ more)) (length front + 1) ≡ Ok (n, length front + suc (byte_len w))
-behind_first w front part more first n e =
-    let place : length front + 1 + byte_len w ≡ length front + suc (byte_len w) = omega arith in
-    let moved = rw (append_assoc front (first ∷ []) (part ++ more), length-append front (first ∷ [])) at e in
+pub behind_first : (w : Width) (prefix part more : List ℕ) (first n : ℕ) → fixed_at w ((prefix ++ first ∷ []) ++ (part ++ more)) (length (prefix ++ first ∷ [])) ≡ Ok (n, length (prefix ++ first ∷ []) + byte_len w) → fixed_at w (prefix ++ first ∷ (part ++ more)) (length prefix + 1) ≡ Ok (n, length prefix + suc (byte_len w))
+behind_first w prefix part more first n e =
+    let place : length prefix + 1 + byte_len w ≡ length prefix + suc (byte_len w) = omega arith in
+    let moved = rw (append_assoc prefix (first ∷ []) (part ++ more), length-append prefix (first ∷ [])) at e in
     moved ∙ ap (λ k. Ok (n, k)) place
 
 -- the first byte chooses the form
-by_first : (front rest : List ℕ) (first : ℕ) → number_at (front ++ first ∷ rest) (length front) ≡ number_of (front ++ first ∷ rest) (length front) first
+by_first : (prefix rest : List ℕ) (first : ℕ) → number_at (prefix ++ first ∷ rest) (length prefix) ≡ number_of (prefix ++ first ∷ rest) (length prefix) first
 unfolding number_at
-by_first front rest first = rw (fixed_part w8 front (first ∷ []) rest refl) refl
+by_first prefix rest first = rw (fixed_part w8 prefix (first ∷ []) rest refl) refl
 
 -- bytes between two lists are read as this number
 abbrev IsRead : List ℕ → List ℕ → ℤ → List ℕ → Type 0
-IsRead front more z bytes = number_at (front ++ (bytes ++ more)) (length front) ≡ Ok (z, length front + length bytes)
+IsRead prefix more z bytes = number_at (prefix ++ (bytes ++ more)) (length prefix) ≡ Ok (z, length prefix + length bytes)
 
 -- ---- each form
 
-tiny : (front more : List ℕ) (n : ℕ) → n < 128 → IsRead front more (pos n) (n ∷ [])
+tiny : (prefix more : List ℕ) (n : ℕ) → n < 128 → IsRead prefix more (pos n) (n ∷ [])
 unfolding number_of
-tiny front more n h =
+tiny prefix more n h =
     let t : ltb n 128 ≡ true = grind (arith, nat_tests) in
-    by_first front more n ∙ rw t refl
+    by_first prefix more n ∙ rw t refl
 
-minus_tiny : (front more : List ℕ) (n : ℕ) → n < 32 → IsRead front more (negsuc n) ((255 - n) ∷ [])
+minus_tiny : (prefix more : List ℕ) (n : ℕ) → n < 32 → IsRead prefix more (negsuc n) ((255 - n) ∷ [])
 unfolding number_of
-minus_tiny front more n h =
+minus_tiny prefix more n h =
     let t : ltb (255 - n) 128 ≡ false = grind (arith, nat_tests) in
     let u : leb 224 (255 - n) ≡ true = grind (arith, nat_tests) in
     let e : 255 - (255 - n) ≡ n = omega arith in
-    by_first front more (255 - n) ∙ rw (t, u, e) refl
+    by_first prefix more (255 - n) ∙ rw (t, u, e) refl
 
-unsigned_8 : (front more : List ℕ) (n : ℕ) → IsRead front more (pos n) (204 ∷ n ∷ [])
+unsigned_8 : (prefix more : List ℕ) (n : ℕ) → IsRead prefix more (pos n) (204 ∷ n ∷ [])
 unfolding number_of unsigned_at
-unsigned_8 front more n =
-    let e = behind_first w8 front (n ∷ []) more 204 n (fixed_part w8 (front ++ 204 ∷ []) (n ∷ []) more refl) in
-    by_first front (n ∷ more) 204 ∙ rw e refl
+unsigned_8 prefix more n =
+    let e = behind_first w8 prefix (n ∷ []) more 204 n (fixed_part w8 (prefix ++ 204 ∷ []) (n ∷ []) more refl) in
+    by_first prefix (n ∷ more) 204 ∙ rw e refl
 
-unsigned_16 : (front more : List ℕ) (n : ℕ) → n < 2 ^ 16 → IsRead front more (pos n) (205 ∷ to_le_bytes w16 n)
+unsigned_16 : (prefix more : List ℕ) (n : ℕ) → n < 2 ^ 16 → IsRead prefix more (pos n) (205 ∷ to_le_bytes w16 n)
 unfolding number_of unsigned_at
-unsigned_16 front more n h =
-    let e = behind_first w16 front (to_le_bytes w16 n) more 205 n (fixed_again_16 (front ++ 205 ∷ []) more n h) in
-    by_first front (to_le_bytes w16 n ++ more) 205 ∙ rw e refl
+unsigned_16 prefix more n h =
+    let e = behind_first w16 prefix (to_le_bytes w16 n) more 205 n (fixed_again_16 (prefix ++ 205 ∷ []) more n h) in
+    by_first prefix (to_le_bytes w16 n ++ more) 205 ∙ rw e refl
 
-unsigned_32 : (front more : List ℕ) (n : ℕ) → n < 2 ^ 31 → IsRead front more (pos n) (206 ∷ to_le_bytes w32 n)
+unsigned_32 : (prefix more : List ℕ) (n : ℕ) → n < 2 ^ 31 → IsRead prefix more (pos n) (206 ∷ to_le_bytes w32 n)
 unfolding number_of wide_at
-unsigned_32 front more n h =
+unsigned_32 prefix more n h =
     let below : n < 2 ^ 32 = omega arith in
     let t : ltb n 2147483648 ≡ true = grind (arith, nat_tests) in
-    let e = behind_first w32 front (to_le_bytes w32 n) more 206 n (fixed_again_32 (front ++ 206 ∷ []) more n below) in
-    by_first front (to_le_bytes w32 n ++ more) 206 ∙ rw (e, t) refl
+    let e = behind_first w32 prefix (to_le_bytes w32 n) more 206 n (fixed_again_32 (prefix ++ 206 ∷ []) more n below) in
+    by_first prefix (to_le_bytes w32 n ++ more) 206 ∙ rw (e, t) refl
 
-minus_8 : (front more : List ℕ) (n : ℕ) → n < 128 → IsRead front more (negsuc n) (208 ∷ (255 - n) ∷ [])
+minus_8 : (prefix more : List ℕ) (n : ℕ) → n < 128 → IsRead prefix more (negsuc n) (208 ∷ (255 - n) ∷ [])
 unfolding number_of signed_at
-minus_8 front more n h =
-    let e = behind_first w8 front ((255 - n) ∷ []) more 208 (255 - n) (fixed_part w8 (front ++ 208 ∷ []) ((255 - n) ∷ []) more refl) in
-    by_first front ((255 - n) ∷ more) 208 ∙ rw (e, cast_again w8 n (255 - n) h (omega arith)) refl
+minus_8 prefix more n h =
+    let e = behind_first w8 prefix ((255 - n) ∷ []) more 208 (255 - n) (fixed_part w8 (prefix ++ 208 ∷ []) ((255 - n) ∷ []) more refl) in
+    by_first prefix ((255 - n) ∷ more) 208 ∙ rw (e, cast_again w8 n (255 - n) h (omega arith)) refl
 
-minus_16 : (front more : List ℕ) (n : ℕ) → n < 32768 → IsRead front more (negsuc n) (209 ∷ to_le_bytes w16 (65535 - n))
+minus_16 : (prefix more : List ℕ) (n : ℕ) → n < 32768 → IsRead prefix more (negsuc n) (209 ∷ to_le_bytes w16 (65535 - n))
 unfolding number_of signed_at
-minus_16 front more n h =
+minus_16 prefix more n h =
     let below : 65535 - n < 2 ^ 16 = omega arith in
-    let e = behind_first w16 front (to_le_bytes w16 (65535 - n)) more 209 (65535 - n) (fixed_again_16 (front ++ 209 ∷ []) more (65535 - n) below) in
-    by_first front (to_le_bytes w16 (65535 - n) ++ more) 209 ∙ rw (e, cast_again w16 n (65535 - n) h (omega arith)) refl
+    let e = behind_first w16 prefix (to_le_bytes w16 (65535 - n)) more 209 (65535 - n) (fixed_again_16 (prefix ++ 209 ∷ []) more (65535 - n) below) in
+    by_first prefix (to_le_bytes w16 (65535 - n) ++ more) 209 ∙ rw (e, cast_again w16 n (65535 - n) h (omega arith)) refl
 
-minus_32 : (front more : List ℕ) (n : ℕ) → n < 2 ^ 31 → IsRead front more (negsuc n) (210 ∷ to_le_bytes w32 (4294967295 - n))
+minus_32 : (prefix more : List ℕ) (n : ℕ) → n < 2 ^ 31 → IsRead prefix more (negsuc n) (210 ∷ to_le_bytes w32 (4294967295 - n))
 unfolding number_of signed_at
-minus_32 front more n h =
+minus_32 prefix more n h =
     let below : 4294967295 - n < 2 ^ 32 = omega arith in
-    let e = behind_first w32 front (to_le_bytes w32 (4294967295 - n)) more 210 (4294967295 - n) (fixed_again_32 (front ++ 210 ∷ []) more (4294967295 - n) below) in
-    by_first front (to_le_bytes w32 (4294967295 - n) ++ more) 210 ∙ rw (e, cast_again w32 n (4294967295 - n) h (omega arith)) refl
+    let e = behind_first w32 prefix (to_le_bytes w32 (4294967295 - n)) more 210 (4294967295 - n) (fixed_again_32 (prefix ++ 210 ∷ []) more (4294967295 - n) below) in
+    by_first prefix (to_le_bytes w32 (4294967295 - n) ++ more) 210 ∙ rw (e, cast_again w32 n (4294967295 - n) h (omega arith)) refl
 
 -- ---- all forms
 
@@ -132,8 +132,8 @@ pub ltb_below : (n k : ℕ) → ltb n k ≡ true → n < k
 ltb_below n k h = grind (arith, nat_tests)
 
 -- what was written as a `number` is read again, whatever stands before and behind it
-pub number_again : (front more : List ℕ) (z : ℤ) → in_signed (2 ^ 31) z ≡ true → number_at (front ++ (number_bytes z ++ more)) (length front) ≡ Ok (z, length front + length (number_bytes z))
-number_again front more (pos n) h =
-    by_chain (IsRead front more (pos n)) (ltb n 128) (ltb n 256) (ltb n 65536) _ _ _ _ (λ e. tiny front more n (ltb_below n 128 e)) (λ _. unsigned_8 front more n) (λ e. unsigned_16 front more n (ltb_below n 65536 e)) (unsigned_32 front more n (ltb_below n (2 ^ 31) h))
-number_again front more (negsuc n) h =
-    by_chain (IsRead front more (negsuc n)) (ltb n 32) (ltb n 128) (ltb n 32768) _ _ _ _ (λ e. minus_tiny front more n (ltb_below n 32 e)) (λ e. minus_8 front more n (ltb_below n 128 e)) (λ e. minus_16 front more n (ltb_below n 32768 e)) (minus_32 front more n (ltb_below n (2 ^ 31) h))
+pub number_again : (prefix more : List ℕ) (z : ℤ) → in_signed (2 ^ 31) z ≡ true → number_at (prefix ++ (number_bytes z ++ more)) (length prefix) ≡ Ok (z, length prefix + length (number_bytes z))
+number_again prefix more (pos n) h =
+    by_chain (IsRead prefix more (pos n)) (ltb n 128) (ltb n 256) (ltb n 65536) _ _ _ _ (λ e. tiny prefix more n (ltb_below n 128 e)) (λ _. unsigned_8 prefix more n) (λ e. unsigned_16 prefix more n (ltb_below n 65536 e)) (unsigned_32 prefix more n (ltb_below n (2 ^ 31) h))
+number_again prefix more (negsuc n) h =
+    by_chain (IsRead prefix more (negsuc n)) (ltb n 32) (ltb n 128) (ltb n 32768) _ _ _ _ (λ e. minus_tiny prefix more n (ltb_below n 32 e)) (λ e. minus_8 prefix more n (ltb_below n 128 e)) (λ e. minus_16 prefix more n (ltb_below n 32768 e)) (minus_32 prefix more n (ltb_below n (2 ^ 31) h))

@@ -13,7 +13,8 @@ use Rattle.lists.proofs.SameBytes.{same_bytes}
 use Rattle.text_model.specs.SchemaReading.{class_place, last_names, names_from, names_inherited, place_from, with_field}
 use Rattle.text_model.specs.declared.draft.DraftClass.{DraftClass}
 use Rattle.text_model.specs.declared.draft.DraftField.{DraftField}
-use Rattle.schema_reader.specs.Words.{bytes_of}
+use Rattle.text_model.proofs.DraftTable.{length-names_from}
+use Rattle.text_words.specs.Words.{bytes_of}
 use Rattle.schema_reader.specs.Indexes.{IsIndexed, Places, all_names, place_in}
 
 -- ---- a class more
@@ -57,12 +58,6 @@ pub names_from-added : (earlier : List (List (List ℕ))) (cs : List DraftClass)
 names_from-added earlier [] c = refl
 names_from-added earlier (d ∷ cs) c =
     names_from-added (earlier ++ (names_inherited earlier d.parent ++ map (λ (f : DraftField). f.name) d.own) ∷ []) cs c
-
-pub length-names_from : (earlier : List (List (List ℕ))) (cs : List DraftClass) → length (names_from earlier cs) ≡ length earlier + length cs
-length-names_from earlier [] = omega arith
-length-names_from earlier (c ∷ cs) =
-    let more = earlier ++ (names_inherited earlier c.parent ++ map (λ (f : DraftField). f.name) c.own) ∷ [] in
-    omega (arith, length-names_from more cs, length-append earlier ((names_inherited earlier c.parent ++ map (λ (f : DraftField). f.name) c.own) ∷ []))
 
 -- ---- a field more
 

@@ -1,9 +1,8 @@
-pub mod ReadLaws
-pub mod Lines
-pub mod LineForms
-pub mod GivesLaws
 pub mod Drafts
-pub mod Numbers
+pub mod GivesLaws
 pub mod ItemWords
-pub mod Writes
 pub mod KindWords
+pub mod LineForms
+pub mod Lines
+pub mod ReadLaws
+pub mod Writes

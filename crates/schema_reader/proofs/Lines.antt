@@ -1,15 +1,15 @@
 -- A text, line by line.
-use Rattle.std.proofs.Common.{◌≡◌, ℕ, suc, ◌+◌, ◌-◌, ◌<◌, List, [], ◌∷◌, ◌++◌, ◌≤◌, length, map, take, drop, get_or, Some, None, Result, Ok, Err, refl, sym, ap, ◌∙◌, add-one, arith}
-use Rattle.std.specs.Prelude.{position}
+use Rattle.std.proofs.Common.{◌≡◌, ℕ, suc, ◌+◌, ◌-◌, ◌<◌, List, [], ◌∷◌, ◌++◌, ◌≤◌, length, map, take, get_or, Result, Ok, Err, refl, sym, ap, ◌∙◌, add-one, arith}
 use Rattle.std.proofs.lemmas.List.Splits.{length-slice_split}
-use Rattle.std.proofs.lemmas.List.{drop-drop, length_push}
+use Rattle.std.proofs.lemmas.List.{length_push}
 use Rattle.schema_model.specs.Classes.{Schema}
 use Rattle.schema_model.specs.Reading.{◌>>=◌}
-use Rattle.text_model.proofs.FirstLine.{is_lf, pieces_at, pieces_without}
+use Rattle.text_model.proofs.FirstLine.{is_lf}
 use Rattle.text_model.specs.Lines.{pieces_of, words_of}
 use Rattle.text_model.specs.SchemaReading.{Draft, empty_draft, ended, line_taken, lines_taken, read_schema_text}
 use Rattle.text_model.specs.declared.fault.SchemaFault.{SchemaFault}
 use Rattle.text_model.proofs.LinesFew.{lines_few, lines_taken-push}
+use Rattle.text_words.specs.Cuts.{IsCut, IsUncut}
 use Rattle.schema_reader.specs.Gives.{Gives}
 use Rattle.schema_reader.proofs.GivesLaws.{gives_err}
 
@@ -47,31 +47,28 @@ read_on-cons count d l (m ∷ ms) h =
     ∙ sym (ap (λ k. line_taken (suc count) d (words_of l) >>= (λ next. lines_taken (suc (suc count)) next (map words_of (take k (m ∷ ms))) >>= ended (suc count + k) (get_or (m ∷ ms) k []))) b))
 
 -- a line, and what is behind it
-pub read_rest_line : (count i : ℕ) (d : Draft) (xs : List ℕ) → Some i ≡ position is_lf xs
-    → read_rest count d xs ≡ (line_taken (count + 1) d (words_of (take i xs)) >>= (λ next. read_rest (count + 1) next (drop (i + 1) xs)))
-read_rest_line count i d xs e =
-    ap (read_on count d) (pieces_at xs i e)
-    ∙ (read_on-cons count d (take i xs) (pieces_of (drop (i + 1) xs)) (omega (arith, length-slice_split is_lf (drop (i + 1) xs)))
-    ∙ ap (λ k. line_taken k d (words_of (take i xs)) >>= (λ next. read_rest k next (drop (i + 1) xs))) (sym (add-one count)))
+read_rest_line : (count : ℕ) (d : Draft) (xs line behind : List ℕ) → IsCut xs line behind
+    → read_rest count d xs ≡ (line_taken (count + 1) d (words_of line) >>= (λ next. read_rest (count + 1) next behind))
+read_rest_line count d xs line behind cut =
+    ap (read_on count d) cut.pieces
+    ∙ (read_on-cons count d line (pieces_of behind) (omega (arith, length-slice_split is_lf behind))
+    ∙ ap (λ k. line_taken k d (words_of line) >>= (λ next. read_rest k next behind)) (sym (add-one count)))
 
-pub read_rest_last : (count : ℕ) (d : Draft) (xs : List ℕ) → None ≡ position is_lf xs → read_rest count d xs ≡ ended count xs d
-read_rest_last count d xs e =
+pub read_rest_last : (count : ℕ) (d : Draft) (xs : List ℕ) → IsUncut xs → read_rest count d xs ≡ ended count xs d
+read_rest_last count d xs uncut =
     let same : count + 0 ≡ count = omega arith in
-    ap (read_on count d) (pieces_without xs e) ∙ ap (λ k. ended k xs d) same
+    ap (read_on count d) uncut.pieces ∙ ap (λ k. ended k xs d) same
 
 -- a line that is taken, and one with a fault
-pub read_rest_taken : (count i : ℕ) (d now : Draft) (xs line behind rest : List ℕ) → Some i ≡ position is_lf xs → line ≡ take i xs → behind ≡ drop i xs
-    → line_taken (count + 1) d (words_of line) ≡ Ok now → rest ≡ drop 1 behind → read_rest count d xs ≡ read_rest (count + 1) now rest
-read_rest_taken count i d now xs line behind rest e l b h g =
-    let same : rest ≡ drop (i + 1) xs = g ∙ (ap (drop 1) b ∙ drop-drop 1 i xs) in
-    let taken : line_taken (count + 1) d (words_of (take i xs)) ≡ Ok now = ap (λ w. line_taken (count + 1) d (words_of w)) (sym l) ∙ h in
-    read_rest_line count i d xs e ∙ (ap (λ r. r >>= (λ next. read_rest (count + 1) next (drop (i + 1) xs))) taken ∙ ap (read_rest (count + 1) now) (sym same))
+pub read_rest_taken : (count : ℕ) (d now : Draft) (xs line behind : List ℕ) → IsCut xs line behind → line_taken (count + 1) d (words_of line) ≡ Ok now → read_rest count d xs ≡ read_rest (count + 1) now behind
+read_rest_taken count d now xs line behind cut taken =
+    read_rest_line count d xs line behind cut ∙ ap (λ r. r >>= (λ next. read_rest (count + 1) next behind)) taken
 
-pub read_rest_refused : (count i : ℕ) (d : Draft) (xs line : List ℕ) (f : SchemaFault) (whole : Result Schema SchemaFault) → Some i ≡ position is_lf xs → line ≡ take i xs
+pub read_rest_refused : (count : ℕ) (d : Draft) (xs line behind : List ℕ) (f : SchemaFault) (whole : Result Schema SchemaFault) → IsCut xs line behind
     → Gives (Err f) (line_taken (count + 1) d (words_of line)) → read_rest count d xs ≡ whole → Gives (Err f) whole
-read_rest_refused count i d xs line f whole e l h g =
+read_rest_refused count d xs line behind f whole cut h g =
     gives_err f (line_taken (count + 1) d (words_of line)) whole
-    (λ f k. sym g ∙ (read_rest_line count i d xs e ∙ ap (λ r. r >>= (λ next. read_rest (count + 1) next (drop (i + 1) xs))) (ap (λ w. line_taken (count + 1) d (words_of w)) (sym l) ∙ k))) h
+    (λ f k. sym g ∙ (read_rest_line count d xs line behind cut ∙ ap (λ r. r >>= (λ next. read_rest (count + 1) next behind)) k)) h
 
 -- so many lines lead to a draft
 pub record IsReached (count : ℕ) (d : Draft) : Type 0 where

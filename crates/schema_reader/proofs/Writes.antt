@@ -24,23 +24,23 @@ pub fields_more : (old mid now : List ℕ) (head : SchemaLine) (classes : List C
     → mid ≡ old ++ text_of (head ∷ map (field_line classes) (take i fields)) → now ≡ mid ++ line (line_words (field_line classes f))
     → now ≡ old ++ text_of (head ∷ map (field_line classes) (take (i + 1) fields))
 fields_more old mid now head classes fields i f h e m n =
-    let front = head ∷ map (field_line classes) (take i fields) in
+    let prefix = head ∷ map (field_line classes) (take i fields) in
     let one = field_line classes f ∷ [] in
-    let more : head ∷ map (field_line classes) (take (i + 1) fields) ≡ front ++ one =
+    let more : head ∷ map (field_line classes) (take (i + 1) fields) ≡ prefix ++ one =
     ap (λ t. head ∷ t) (map_more (field_line classes) fields i f h ∙ ap (λ y. map (field_line classes) (take i fields) ++ field_line classes y ∷ []) (sym e)) in
     n
     ∙ (ap (λ t. t ++ line (line_words (field_line classes f))) m
-    ∙ (append_assoc old (text_of front) (line (line_words (field_line classes f)))
-    ∙ ap (λ t. old ++ t) (ap (λ t. text_of front ++ t) (sym (text_of-one (field_line classes f))) ∙ (sym (text_of-append front one) ∙ sym (ap text_of more)))))
+    ∙ (append_assoc old (text_of prefix) (line (line_words (field_line classes f)))
+    ∙ ap (λ t. old ++ t) (ap (λ t. text_of prefix ++ t) (sym (text_of-one (field_line classes f))) ∙ (sym (text_of-append prefix one) ∙ sym (ap text_of more)))))
 
 -- a class's lines more
 pub classes_more : (mid now : List ℕ) (all classes : List Class) (i : ℕ) (c : Class) → i < length classes → c ≡ get_or classes i c
     → mid ≡ text_of (flat_map (class_lines all) (take i classes)) → now ≡ mid ++ text_of (class_lines all c)
     → now ≡ text_of (flat_map (class_lines all) (take (i + 1) classes))
 classes_more mid now all classes i c h e m n =
-    let front = flat_map (class_lines all) (take i classes) in
-    let more : flat_map (class_lines all) (take (i + 1) classes) ≡ front ++ class_lines all c =
+    let prefix = flat_map (class_lines all) (take i classes) in
+    let more : flat_map (class_lines all) (take (i + 1) classes) ≡ prefix ++ class_lines all c =
     ap (flat_map (class_lines all)) (take_more classes i c h)
     ∙ (flat_map-append (class_lines all) (take i classes) (get_or classes i c ∷ [])
-    ∙ ap (λ t. front ++ t) (append-nil (class_lines all (get_or classes i c)) ∙ ap (class_lines all) (sym e))) in
-    n ∙ (ap (λ t. t ++ text_of (class_lines all c)) m ∙ (sym (text_of-append front (class_lines all c)) ∙ sym (ap text_of more)))
+    ∙ ap (λ t. prefix ++ t) (append-nil (class_lines all (get_or classes i c)) ∙ ap (class_lines all) (sym e))) in
+    n ∙ (ap (λ t. t ++ text_of (class_lines all c)) m ∙ (sym (text_of-append prefix (class_lines all c)) ∙ sym (ap text_of more)))

@@ -10,7 +10,7 @@ use Rattle.std.specs.Str.{bytes_eq}
 use Rattle.schema_model.specs.Classes.{most_classes}
 use Rattle.text_model.specs.SchemaReading.{class_place, names_from}
 use Rattle.text_model.specs.declared.draft.DraftClass.{DraftClass}
-use Rattle.schema_reader.specs.Words.{bytes_of}
+use Rattle.text_words.specs.Words.{bytes_of}
 
 -- the places of names
 abbrev pub Places : Type 0

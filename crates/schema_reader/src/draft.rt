@@ -4,19 +4,18 @@ ghost use Rattle.std.specs.List.{list_any};
 ghost use Rattle.std.specs.Str.{bytes_eq};
 ghost use Rattle.text_model.specs.Marks.{is_class_name};
 ghost use Rattle.text_model.specs.SchemaReading.{class_place, empty_draft, last_names, names_from, names_inherited, with_class, with_field};
-ghost use Rattle.schema_reader.specs.Words.{bytes_of};
+ghost use Rattle.text_words.specs.Words.{bytes_of};
 ghost use Rattle.schema_reader.specs.Indexes.{place_in};
 ghost use Rattle.std.specs.Map.{update};
 ghost use Rattle.std.specs.HashMap.{IsUnchanged};
 
-use crate::names::is_one_of;
-use crate::words::name_text;
 use lists::{Memory, Seq};
 use schema_model::{MOST_CLASSES, TypeNum};
 use std::alloc::{AllocError, Global};
 use std::collections::HashMap;
 use std::marker::Model;
 use text_model::{DraftClass, DraftField, DraftRoot};
+use text_words::{is_one_of, name_text};
 
 /// Adds the place of a name.
 fn add_place<'a>(

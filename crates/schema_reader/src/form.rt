@@ -3,12 +3,12 @@ ghost use Rattle.std.specs.Prelude.{◌≡◌};
 ghost use Rattle.std.specs.Option.{option_map};
 ghost use Rattle.text_model.specs.SchemaReading.{class_form, field_form, item_form, line_form, root_form, shape_form, tagging_form};
 ghost use Rattle.schema_reader.specs.Forms.{form_line, tagging_of_mark};
-ghost use Rattle.schema_reader.specs.Words.{bytes_of};
+ghost use Rattle.text_words.specs.Words.{bytes_of};
 
-use crate::decimal::is_tag_word;
-use crate::names::{is_class_name, is_field_name, is_word};
-use crate::words::is_item_word;
+use crate::names::{is_class_name, is_field_name};
+use crate::words::{is_item_word, is_tag_word};
 use text_model::Grouping;
+use text_words::is_word;
 
 /// No tag, the default one, or one that is given by a word.
 #[derive(Clone, Copy)]

@@ -1,38 +1,16 @@
-//! Which words are names.
+//! Which words are names of fields and of classes.
 ghost use Rattle.std.specs.Prelude.{◌≡◌};
-ghost use Rattle.std.specs.List.{list_all, list_any};
-ghost use Rattle.std.specs.Str.{bytes_eq};
-ghost use Rattle.text_model.specs.Marks.{has_name_length, is_class_name, is_field_name, is_name_byte, is_one_of};
-ghost use Rattle.text_model.specs.Lines.{is_word};
+ghost use Rattle.std.specs.List.{list_all};
+ghost use Rattle.text_model.specs.Marks.{is_class_name, is_field_name, is_name_byte};
 
 use crate::kinds::kind_of_word;
-
-/// Whether a word is this one.
-pub fn is_word(word: &[u8], text: &str) -> bool
-    ensures { result ≡ is_word text.now word.now }
-{
-    word == text.as_bytes()
-}
-
-/// Whether a word is one of these.
-pub fn is_one_of(words: &[&[u8]], word: &[u8]) -> bool
-    ensures { result ≡ list_any (λ w. bytes_eq word.now w.now) words.now }
-{
-    words.iter().any(|other| word == *other)
-}
+use text_words::{has_name_length, is_one_of};
 
 /// Whether a byte is a letter, a digit or `_`.
-pub fn is_name_byte(byte: u8) -> bool
+fn is_name_byte(byte: u8) -> bool
     ensures { result ≡ is_name_byte byte }
 {
     byte.is_ascii_alphanumeric() || byte == b'_'
-}
-
-/// Whether a word has 1 to 64 bytes.
-pub fn has_name_length(word: &[u8]) -> bool
-    ensures { result ≡ has_name_length word.now }
-{
-    1 <= word.len() && word.len() <= 64
 }
 
 /// Whether all bytes of a word are letters, digits or `_`.

@@ -1,17 +1,17 @@
 //! Reading a text as a schema.
-ghost use Rattle.std.specs.Prelude.{◌≡◌, ◌<◌, ◌-◌, ◌^◌, ◌==◌, length, position, IfOk};
+ghost use Rattle.std.specs.Prelude.{◌≡◌, ◌<◌, ◌-◌, ◌^◌, length, IfOk};
 ghost use Rattle.schema_model.specs.Classes.{Schema as SchemaOf};
 ghost use Rattle.text_model.specs.SchemaLines.{IsSchemaText};
 ghost use Rattle.text_model.specs.SchemaReading.{ended, read_schema_text};
 ghost use Rattle.schema_reader.specs.Gives.{Gives, GivesSchema, IsGiven, schema_of_parts};
 
 use crate::draft::Draft;
-use crate::line::line_len;
 use crate::resolve::resolve;
 use crate::take::take_line;
 use schema_model::{Classes, Memory, Schema, TypeNum};
 use std::alloc::Global;
 use text_model::SchemaFault;
+use text_words::next_line;
 
 /// The classes and the root of a text of which so many lines were taken, by what stands behind its last LF.
 fn finish(
@@ -36,11 +36,10 @@ fn read_parts(alloc: Global, text: &[u8]) -> Result<(Classes, TypeNum), SchemaFa
     let mut draft = Draft::new(alloc);
     let mut count = 0;
     let mut rest = text;
-    while let Some(len) = line_len(rest) {
+    while let Some((line, behind)) = next_line(rest) {
         count += 1;
-        let (line, behind) = rest.split_at(len);
         take_line(alloc, count, &mut draft, line)?;
-        rest = &behind[1..];
+        rest = behind;
     }
     finish(alloc, &draft, count, rest)
 }

@@ -8,17 +8,16 @@ ghost use Rattle.text_model.specs.SchemaReading.{class_taken, field_taken, form_
 ghost use Rattle.text_model.specs.declared.fault.SchemaFault.TheVariants.{BadTag, ParentLater};
 ghost use Rattle.schema_reader.specs.Forms.{IsFormed, form_line, tagging_of_mark};
 ghost use Rattle.schema_reader.specs.Gives.{Gives, taken};
-ghost use Rattle.schema_reader.specs.Words.{bytes_of};
+ghost use Rattle.text_words.specs.Words.{bytes_of};
 
-use crate::decimal::read_tag;
 use crate::draft::Draft;
 use crate::form::{Form, TagMark, line_form};
-use crate::line::first_words;
-use crate::words::{is_fractional, name_text};
+use crate::words::is_fractional;
 use lists::Memory;
 use schema_model::{MOST_CLASSES, MOST_FIELDS, Tag, TypeNum};
 use std::alloc::Global;
 use text_model::{DraftField, DraftRoot, Grouping, SchemaFault};
+use text_words::{first_words, name_text, read_byte};
 
 /// The place of the parent, where there is one; it has to be declared before.
 fn parent_place(
@@ -70,7 +69,7 @@ fn tag_of(line: u32, mark: TagMark) -> Result<Option<Tag>, SchemaFault>
     match mark {
         TagMark::Untagged => Ok(None),
         TagMark::Default => Ok(Some(Tag(-1))),
-        TagMark::Given(word) => match read_tag(word) {
+        TagMark::Given(word) => match read_byte(word) {
             Some(tag) => Ok(Some(Tag(i16::from(tag)))),
             None => Err(SchemaFault::BadTag(line)),
         },

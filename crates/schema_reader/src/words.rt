@@ -1,13 +1,11 @@
-//! Words of kinds and of items.
-ghost use Rattle.std.specs.Prelude.{◌≡◌, IfOk, true};
-ghost use Rattle.std.specs.List.{list_all};
-ghost use Rattle.text_model.specs.Marks.{is_id_byte, is_one_of};
-ghost use Rattle.text_model.specs.SchemaLines.{fractional_words, is_item_word};
+//! Words of kinds, of items and of tags.
+ghost use Rattle.std.specs.Prelude.{◌≡◌};
+ghost use Rattle.text_model.specs.Marks.{is_one_of};
+ghost use Rattle.text_model.specs.SchemaLines.{fractional_words, is_item_word, is_tag_word};
 
 use crate::kinds::kind_of_word;
-use crate::names::{is_class_name, is_one_of};
-use lists::{Memory, Text, TextFault};
-use std::alloc::Global;
+use crate::names::is_class_name;
+use text_words::{is_decimal, is_one_of, is_word};
 
 /// The words for kinds that are refused by name.
 const FRACTIONAL: [&[u8]; 2] = [b"float32", b"float64"];
@@ -19,22 +17,19 @@ pub fn is_fractional(word: &[u8]) -> bool
     is_one_of(&FRACTIONAL, word)
 }
 
+/// Whether a word can stand for a tag: a decimal, or one behind a `-` that isn't 0.
+pub fn is_tag_word(word: &[u8]) -> bool
+    ensures { result ≡ is_tag_word word.now }
+{
+    match word {
+        [b'-', digits @ ..] => is_decimal(digits) && !is_word(digits, "0"),
+        _ => is_decimal(word),
+    }
+}
+
 /// Whether a word can stand for an item: of a kind, or the name of a class.
 pub fn is_item_word(word: &[u8]) -> bool
     ensures { result ≡ is_item_word word.now }
 {
     kind_of_word(word).is_some() || is_class_name(word)
-}
-
-/// A name, or the word of a kind, as a text. Its bytes are all ASCII.
-#[tactic(auto, using(text_model::proofs::Ascii::utf8_from_id_bytes))]
-pub fn name_text(alloc: Global, name: &[u8]) -> Result<Text, Memory>
-    requires { list_all is_id_byte name.now ≡ true }
-    ensures { IfOk result (λ text. text ≡ name.now) }
-{
-    match Text::from_bytes(alloc, name) {
-        Ok(text) => Ok(text),
-        Err(TextFault::Memory) => Err(Memory),
-        Err(TextFault::NotUtf8) => unreachable!(),
-    }
 }

@@ -1,15 +1,16 @@
 //! Writing a schema as its one text.
 ghost use Rattle.std.specs.Prelude.{◌≡◌, ◌++◌, ◌∷◌, [], IfOk, Ok, OnOk, Some, map, true};
+ghost use Rattle.std.specs.Fmt.{decimal};
 ghost use Rattle.text_model.specs.Marks.{line, lines};
 ghost use Rattle.text_model.specs.SchemaLines.{ClassLine, RootLine, class_lines, class_name, field_line, grouped, grouping_of, is_spelled, item_word, line_words, parent_name, schema_text, tagging_of, tagging_words};
 ghost use Rattle.text_model.specs.SchemaReading.{read_schema_text};
-ghost use Rattle.schema_reader.specs.Words.{behind};
+ghost use Rattle.text_words.specs.Words.{behind};
 
 use crate::kinds::scalar_word;
-use itoa::Buffer;
 use lists::{Bytes, Memory};
 use schema_model::{Class, FieldDecl, Item, Schema, Shape, Tag, TypeNum};
 use std::alloc::Global;
+use text_words::append_decimal;
 
 /// The name of a class.
 fn class_name(classes: &[Class], class: TypeNum) -> &[u8]
@@ -40,6 +41,14 @@ fn append_word(out: &mut Vec<u8>, word: &[u8]) -> Result<(), Memory>
     Ok(())
 }
 
+/// Appends a decimal behind another word.
+fn append_number(out: &mut Vec<u8>, number: u64) -> Result<(), Memory>
+    ensures { OnOk result (out.new.items ≡ out.old.items ++ behind (decimal number ∷ [])) }
+{
+    out.push(b' ')?;
+    append_decimal(out, number)
+}
+
 /// Appends the word of a shape, where it has one.
 fn append_grouping(out: &mut Vec<u8>, shape: Shape) -> Result<(), Memory>
     ensures { OnOk result (out.new.items ≡ out.old.items ++ behind (grouped (grouping_of shape) [])) }
@@ -57,9 +66,8 @@ fn append_tag(out: &mut Vec<u8>, tag: Tag) -> Result<(), Memory>
     ensures { OnOk result (out.new.items ≡ out.old.items ++ behind (tagging_words (tagging_of (Some tag)))) }
 {
     append_word(out, b"view")?;
-    if let Ok(number) = u16::try_from(tag.0) {
-        let mut buffer = Buffer::new();
-        append_word(out, buffer.format(number).as_bytes())?;
+    if let Ok(number) = u64::try_from(tag.0) {
+        append_number(out, number)?;
     }
     Ok(())
 }

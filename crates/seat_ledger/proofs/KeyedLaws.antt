@@ -84,7 +84,7 @@ moved_key ks gone p l other =
       | true ↦ λ e. (let behind : gone < p = grind (arith, nat_tests, e) in
           let up : p - 1 + 1 ≡ p = omega (arith, behind) in
           get_or-remove_above ks gone 0 (p - 1) (omega (arith, behind)) l ∙ ap (λ n. get_or ks n 0) up)
-      | false ↦ λ e. (let front : p < gone = grind (arith, nat_tests, e, other) in get_or-remove_below ks gone 0 p front l)
+      | false ↦ λ e. (let prefix : p < gone = grind (arith, nat_tests, e, other) in get_or-remove_below ks gone 0 p prefix l)
     ] in
     go (ltb gone p) refl
 
@@ -99,7 +99,7 @@ closed_below n m gone p up l within other =
     let go : (b : Bool) → ltb gone p ≡ b → cond b (p - 1) p < m
     = elim [
       | true ↦ λ e. (let behind : gone < p = grind (arith, nat_tests, e) in omega (arith, behind, up, l))
-      | false ↦ λ e. (let front : p < gone = grind (arith, nat_tests, e, other) in omega (arith, front, up, within))
+      | false ↦ λ e. (let prefix : p < gone = grind (arith, nat_tests, e, other) in omega (arith, prefix, up, within))
     ] in
     go (ltb gone p) refl
 

@@ -23,7 +23,7 @@ pub behind_too : (a b : Slot) (ss : List Slot) → precedes a b ≡ true → Are
 behind_too a b [] h k = tt
 behind_too a b (s ∷ ss) h k = (precedes_trans a b s h k.0, behind_too a b ss h k.1)
 
--- a slot in front of all is none of them
+-- a slot before all is none of them
 pub none_behind : (a : Slot) (ss : List Slot) → AreBehind a ss → has_slot a.key a.at ss ≡ false
 none_behind a [] h = refl
 none_behind a (s ∷ ss) h = grind (arith, nat_tests, precedes_apart a s h.0, none_behind a ss h.1)
@@ -104,7 +104,7 @@ sorted_without x (s ∷ ss) k =
     let go : (b : Bool) → IsSorted (cond b ss (s ∷ without_slot x ss)) = elim [ true ↦ k.1 | false ↦ (behind_without s x ss k.0, sorted_without x ss k.1) ] in
     go (is_slot x.key x.at s)
 
--- a slot that equals one in front of all isn't among them
+-- a slot that equals one before all isn't among them
 same_none : (q p : ℕ) (s : Slot) (ss : List Slot) → AreBehind s ss → is_slot q p s ≡ true → has_slot q p ss ≡ false
 same_none q p s ss k e =
     let keys : s.key ≡ q = grind (arith, nat_tests, e) in
@@ -205,7 +205,7 @@ get_behind a [] j d k l = absurd (omega arith)
 get_behind a (s ∷ ss) zero d k l = k.0
 get_behind a (s ∷ ss) (suc j) d k l = get_behind a ss j d k.1 (omega arith)
 
--- a test that what stands in front of a slot passes with it parts the slots
+-- a test that what stands before a slot passes with it parts the slots
 module _ (test : Slot → Bool) (down : (a b : Slot) → precedes a b ≡ true → test b ≡ true → test a ≡ true) where
   pub parted : (ss : List Slot) → IsSorted ss → IsPartitionedBy test ss
   parted [] k i j d o l h = absurd (omega arith)
@@ -263,7 +263,7 @@ least_first q p (t ∷ ss) s k h there =
     ] in
     subst (λ u. precedes x u ≡ false) same (go (precedes x t) refl)
 
--- nothing stands in front of the first place of a key but what has a lesser one
+-- nothing stands before the first place of a key but what has a lesser one
 pub first_place : (key : ℕ) (ss : List Slot) → prefix_len (λ s. precedes s (record { key = key; at = 0 })) ss ≡ prefix_len (λ s. ltb s.key key) ss
 first_place key [] = refl
 first_place key (s ∷ ss) =

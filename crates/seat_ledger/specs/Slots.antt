@@ -3,11 +3,11 @@ use Rattle.std.specs.Prelude.{◌≡◌, ℕ, ◌-◌, Bool, true, false, ◌&&�
 use Rattle.std.specs.List.{list_any}
 use Rattle.seat_ledger.specs.declared.slot.Slot.{Slot}
 
--- a key and a place stand in front of others, by the key and then by the place
+-- a key and a place stand before others, by the key and then by the place
 abbrev pub comes_before : ℕ → ℕ → ℕ → ℕ → Bool
 comes_before q p key at = nat_lt q key || ((q == key) && nat_lt p at)
 
--- a slot stands in front of another
+-- a slot stands before another
 abbrev pub precedes : Slot → Slot → Bool
 precedes a b = comes_before a.key a.at b.key b.at
 

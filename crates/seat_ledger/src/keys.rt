@@ -15,8 +15,8 @@ pub fn id_key(id: Id) -> u128
     ensures id { IsId id }
 {
     let [a, b, c, d, e, f, g, h, i] = id.0;
-    let front = u64::from_le_bytes([a, b, c, d, e, f, g, h]);
-    u128::from(front) + u128::from(i) * FRONT
+    let prefix = u64::from_le_bytes([a, b, c, d, e, f, g, h]);
+    u128::from(prefix) + u128::from(i) * FRONT
 }
 
 /// The token of a seat as a number.

@@ -95,7 +95,7 @@ impl Slots {
         self.keys.remove(gone as usize);
     }
 
-    /// How many slots stand in front of one.
+    /// How many slots stand before one.
     pub fn place_of(&self, slot: Slot) -> usize
         requires { IsSorted self.now.slots }
         ensures { result ≡ prefix_len (λ s. precedes s slot) self.now.slots }
@@ -113,7 +113,7 @@ impl Slots {
         low
     }
 
-    // Whether the slot at a place of the list stands in front of another.
+    // Whether the slot at a place of the list stands before another.
     fn is_before(&self, place: usize, slot: Slot) -> bool
         requires { place < length self.now.slots }
         ensures { (s : Slot) → slice_get self.now.slots place ≡ Some s → result ≡ precedes s slot }
@@ -123,7 +123,7 @@ impl Slots {
     }
 }
 
-// Whether a key and a place stand in front of a slot.
+// Whether a key and a place stand before a slot.
 fn comes_before(key: u128, at: u32, slot: Slot) -> bool
     ensures { result ≡ precedes (record { key = key; at = at }) slot }
 {

@@ -1,11 +1,11 @@
--- How often a number stands among numbers: with one more in front, over two lists, and whether it is there.
+-- How often a number stands among numbers: with one more before it, over two lists, and whether it is there.
 use Rattle.std.proofs.Common.{◌≡◌, ℕ, ◌+◌, cond, not, ◌==◌, List, [], ◌∷◌, ◌++◌, refl, arith}
 use Rattle.std.proofs.lemmas.Bool.Decides.{nat_tests}
 use Rattle.std.proofs.lemmas.List.Sums.{sum_by-cons, sum_by-append}
 use Rattle.state_model.specs.Reached.{is_among}
 use Rattle.state_laws.specs.Counts.{count_of}
 
--- with one more in front
+-- with one more before it
 pub count_first : (k n : ℕ) (ns : List ℕ) → count_of k (n ∷ ns) ≡ cond (n == k) 1 0 + count_of k ns
 count_first k n ns = sum_by-cons (λ (m : ℕ). cond (m == k) 1 0) n ns
 

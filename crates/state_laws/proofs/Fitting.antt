@@ -15,8 +15,8 @@ use Rattle.state_model.specs.declared.row.Row.TheVariants.{Struct, Map, Array, S
 use Rattle.state_model.specs.declared.row.RowEntry.{RowEntry}
 use Rattle.state_model.specs.Values.{held_by}
 use Rattle.state_model.specs.Rows.{row_at, is_live, held_in, emptied}
-use Rattle.state_model.specs.declared.place.Wanted.{Wanted}
-use Rattle.state_model.specs.declared.place.Wanted.TheVariants.{Item as AnItem, Collection as ACollection}
+use Rattle.state_model.specs.declared.place.Expected.{Expected}
+use Rattle.state_model.specs.declared.place.Expected.TheVariants.{Item as AnItem, Collection as ACollection}
 use Rattle.state_model.specs.Places.{empty_collection, same_kind, same_home, row_home, row_class}
 use Rattle.state_model.specs.Reached.{is_among}
 use Rattle.state_model.specs.Sound.{is_instance_of, is_collection_of, fits_place, has_kind}
@@ -102,7 +102,7 @@ collection_elsewhere rows some home n k h =
     ap (is_collection_of home) k.3 ∙ ap (λ o. option_map_or (same_home home) o false) (sym (one_home k.0 k.1 k.4)) ∙ ap (is_collection_of home) (sym k.2) ∙ h
 
 -- a value that fits over some rows fits over others where the row that it leads to is of the same kind
-pub fits_elsewhere : (schema : Schema) (rows some : List RowEntry) (v : Value) (w : Option Wanted) → ((m : ℕ) → is_among m (held_by v) ≡ true → (a b : Row) × (row_at rows m ≡ Some a) × (row_at some m ≡ Some b) × (emptied a ≡ emptied b)) → fits_place schema rows v w ≡ true → fits_place schema some v w ≡ true
+pub fits_elsewhere : (schema : Schema) (rows some : List RowEntry) (v : Value) (w : Option Expected) → ((m : ℕ) → is_among m (held_by v) ≡ true → (a b : Row) × (row_at rows m ≡ Some a) × (row_at some m ≡ Some b) × (emptied a ≡ emptied b)) → fits_place schema rows v w ≡ true → fits_place schema some v w ≡ true
 fits_elsewhere schema rows some v None k h = h
 fits_elsewhere schema rows some v (Some (AnItem (item.Scalar s))) k h = h
 fits_elsewhere schema rows some (value.Link n) (Some (AnItem (item.Class c))) k h = instance_elsewhere schema rows some c n (k n (grind (arith, nat_tests))) h
@@ -137,14 +137,14 @@ collection_live rows home n None s h = cc
 collection_live rows home n (Some r) s h = live_at rows n r s
 
 -- a link that fits leads to a row that is there
-link_live : (schema : Schema) (rows : List RowEntry) (n : ℕ) (w : Option Wanted) → fits_place schema rows (value.Link n) w ≡ true → is_live rows n ≡ true
+link_live : (schema : Schema) (rows : List RowEntry) (n : ℕ) (w : Option Expected) → fits_place schema rows (value.Link n) w ≡ true → is_live rows n ≡ true
 link_live schema rows n None h = cc
 link_live schema rows n (Some (AnItem (item.Scalar s))) h = let no = fits_no_link s n in cc
 link_live schema rows n (Some (AnItem (item.Class c))) h = instance_live schema rows c n (row_at rows n) refl h
 link_live schema rows n (Some (ACollection home)) h = collection_live rows home n (row_at rows n) refl h
 
 -- what a value that fits holds is there
-pub fits_live : (schema : Schema) (rows : List RowEntry) (m : ℕ) (v : Value) (w : Option Wanted) → fits_place schema rows v w ≡ true → holds m v ≡ true → is_live rows m ≡ true
+pub fits_live : (schema : Schema) (rows : List RowEntry) (m : ℕ) (v : Value) (w : Option Expected) → fits_place schema rows v w ≡ true → holds m v ≡ true → is_live rows m ≡ true
 fits_live schema rows m (value.Whole z) w h t = cc
 fits_live schema rows m (value.Str s) w h t = cc
 fits_live schema rows m (value.Truth b) w h t = cc

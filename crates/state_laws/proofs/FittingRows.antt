@@ -16,7 +16,7 @@ use Rattle.state_model.specs.declared.row.MapItem.{MapItem}
 use Rattle.state_model.specs.declared.row.SetItem.{SetItem}
 use Rattle.state_model.specs.Values.{same_value, held_by}
 use Rattle.state_model.specs.Rows.{row_at, is_live, held_in, emptied}
-use Rattle.state_model.specs.Places.{field_wants, item_wants, is_filtered}
+use Rattle.state_model.specs.Places.{field_expects, item_expects, is_filtered}
 use Rattle.state_model.specs.Reached.{is_among}
 use Rattle.state_model.specs.Sound.{rise, differ, keys_differ, fits_place, places_fit}
 use Rattle.state_model.specs.Shown.{shows_field, shows_item, shown_row}
@@ -75,12 +75,12 @@ unfiltered_or false q vs h = refl
 pub shown_fits : (schema : Schema) (rows : List RowEntry) (M : List Pair) (who : ℕ) (r : Row) → places_fit schema rows r ≡ true → places_fit schema rows (shown_row schema M who r) ≡ true
 shown_fits schema rows M who (Struct class fields) h =
     let q = shows_field schema M who class in
-    let p = λ (f : FieldValue). fits_place schema rows f.value (field_wants schema class f.field) in
+    let p = λ (f : FieldValue). fits_place schema rows f.value (field_expects schema class f.field) in
     let two = and_parts (rise (map (λ (f : FieldValue). f.field) fields)) (list_all p fields) h in
     and_from (rise (map (λ (f : FieldValue). f.field) (filter q fields))) (list_all p (filter q fields)) (rise_filtered (λ (f : FieldValue). f.field) q fields two.0) (list_all_filtered p q fields two.1)
 shown_fits schema rows M who (Map home items) h =
     let q = λ (i : MapItem). shows_item schema M who home i.value in
-    let p = λ (i : MapItem). fits_place schema rows i.value (item_wants schema home) in
+    let p = λ (i : MapItem). fits_place schema rows i.value (item_expects schema home) in
     let number = λ (i : MapItem). i.number in
     let key = λ (i : MapItem). i.key in
     let two = and_parts (rise (map number items) && keys_differ (map key items)) (list_all p items) h in
@@ -90,12 +90,12 @@ shown_fits schema rows M who (Map home items) h =
     (list_all_filtered p q items two.1)
 shown_fits schema rows M who (Array home values) h =
     let q = shows_item schema M who home in
-    let p = λ (v : Value). fits_place schema rows v (item_wants schema home) in
+    let p = λ (v : Value). fits_place schema rows v (item_expects schema home) in
     let two = and_parts (not (is_filtered schema home) || differ values) (list_all p values) h in
     and_from (not (is_filtered schema home) || differ (filter q values)) (list_all p (filter q values)) (unfiltered_or (is_filtered schema home) q values two.0) (list_all_filtered p q values two.1)
 shown_fits schema rows M who (Set home items) h =
     let q = λ (i : SetItem). shows_item schema M who home i.value in
-    let p = λ (i : SetItem). fits_place schema rows i.value (item_wants schema home) in
+    let p = λ (i : SetItem). fits_place schema rows i.value (item_expects schema home) in
     let two = and_parts (rise (map (λ (i : SetItem). i.number) items)) (list_all p items) h in
     and_from (rise (map (λ (i : SetItem). i.number) (filter q items))) (list_all p (filter q items)) (rise_filtered (λ (i : SetItem). i.number) q items two.0) (list_all_filtered p q items two.1)
 
@@ -114,49 +114,49 @@ places_elsewhere f p q rows some xs each k h = list_all_wider p q xs (λ x s t. 
 -- places that fit over some rows fit over others where the rows that they lead to are of the same kinds
 pub places_fit_elsewhere : (schema : Schema) (rows some : List RowEntry) (r : Row) → ((m : ℕ) → is_among m (held_in r) ≡ true → (a b : Row) × (row_at rows m ≡ Some a) × (row_at some m ≡ Some b) × (emptied a ≡ emptied b)) → places_fit schema rows r ≡ true → places_fit schema some r ≡ true
 places_fit_elsewhere schema rows some (Struct class fields) k h =
-    let p = λ (rs : List RowEntry) (f : FieldValue). fits_place schema rs f.value (field_wants schema class f.field) in
+    let p = λ (rs : List RowEntry) (f : FieldValue). fits_place schema rs f.value (field_expects schema class f.field) in
     let value = λ (f : FieldValue). f.value in
     let two = and_parts (rise (map (λ (f : FieldValue). f.field) fields)) (list_all (p rows) fields) h in
     and_from (rise (map (λ (f : FieldValue). f.field) fields)) (list_all (p some) fields) two.0
-    (places_elsewhere value (p rows) (p some) rows some fields (λ f. fits_elsewhere schema rows some f.value (field_wants schema class f.field)) (λ m t. k m (list_any-made (λ n. n == m) held_by value fields ∙ t)) two.1)
+    (places_elsewhere value (p rows) (p some) rows some fields (λ f. fits_elsewhere schema rows some f.value (field_expects schema class f.field)) (λ m t. k m (list_any-made (λ n. n == m) held_by value fields ∙ t)) two.1)
 places_fit_elsewhere schema rows some (Map home items) k h =
-    let p = λ (rs : List RowEntry) (i : MapItem). fits_place schema rs i.value (item_wants schema home) in
+    let p = λ (rs : List RowEntry) (i : MapItem). fits_place schema rs i.value (item_expects schema home) in
     let value = λ (i : MapItem). i.value in
     let keyed = rise (map (λ (i : MapItem). i.number) items) && keys_differ (map (λ (i : MapItem). i.key) items) in
     let two = and_parts keyed (list_all (p rows) items) h in
     and_from keyed (list_all (p some) items) two.0
-    (places_elsewhere value (p rows) (p some) rows some items (λ i. fits_elsewhere schema rows some i.value (item_wants schema home)) (λ m t. k m (list_any-made (λ n. n == m) held_by value items ∙ t)) two.1)
+    (places_elsewhere value (p rows) (p some) rows some items (λ i. fits_elsewhere schema rows some i.value (item_expects schema home)) (λ m t. k m (list_any-made (λ n. n == m) held_by value items ∙ t)) two.1)
 places_fit_elsewhere schema rows some (Array home values) k h =
-    let p = λ (rs : List RowEntry) (v : Value). fits_place schema rs v (item_wants schema home) in
+    let p = λ (rs : List RowEntry) (v : Value). fits_place schema rs v (item_expects schema home) in
     let value = λ (v : Value). v in
     let two = and_parts (not (is_filtered schema home) || differ values) (list_all (p rows) values) h in
     and_from (not (is_filtered schema home) || differ values) (list_all (p some) values) two.0
-    (places_elsewhere value (p rows) (p some) rows some values (λ v. fits_elsewhere schema rows some v (item_wants schema home)) (λ m t. k m (list_any-flat_map (λ n. n == m) held_by values ∙ t)) two.1)
+    (places_elsewhere value (p rows) (p some) rows some values (λ v. fits_elsewhere schema rows some v (item_expects schema home)) (λ m t. k m (list_any-flat_map (λ n. n == m) held_by values ∙ t)) two.1)
 places_fit_elsewhere schema rows some (Set home items) k h =
-    let p = λ (rs : List RowEntry) (i : SetItem). fits_place schema rs i.value (item_wants schema home) in
+    let p = λ (rs : List RowEntry) (i : SetItem). fits_place schema rs i.value (item_expects schema home) in
     let value = λ (i : SetItem). i.value in
     let two = and_parts (rise (map (λ (i : SetItem). i.number) items)) (list_all (p rows) items) h in
     and_from (rise (map (λ (i : SetItem). i.number) items)) (list_all (p some) items) two.0
-    (places_elsewhere value (p rows) (p some) rows some items (λ i. fits_elsewhere schema rows some i.value (item_wants schema home)) (λ m t. k m (list_any-made (λ n. n == m) held_by value items ∙ t)) two.1)
+    (places_elsewhere value (p rows) (p some) rows some items (λ i. fits_elsewhere schema rows some i.value (item_expects schema home)) (λ m t. k m (list_any-made (λ n. n == m) held_by value items ∙ t)) two.1)
 
 -- what a row whose places fit holds is there
 pub held_live : (schema : Schema) (rows : List RowEntry) (m : ℕ) (r : Row) → places_fit schema rows r ≡ true → is_among m (held_in r) ≡ true → is_live rows m ≡ true
 held_live schema rows m (Struct class fields) h t =
-    let p = λ (f : FieldValue). fits_place schema rows f.value (field_wants schema class f.field) in
+    let p = λ (f : FieldValue). fits_place schema rows f.value (field_expects schema class f.field) in
     let value = λ (f : FieldValue). f.value in
     let two = and_parts (rise (map (λ (f : FieldValue). f.field) fields)) (list_all p fields) h in
-    all_and_any p (λ f. holds m f.value) fields (is_live rows m) (λ f. fits_live schema rows m f.value (field_wants schema class f.field)) two.1 (sym (list_any-made (λ n. n == m) held_by value fields) ∙ t)
+    all_and_any p (λ f. holds m f.value) fields (is_live rows m) (λ f. fits_live schema rows m f.value (field_expects schema class f.field)) two.1 (sym (list_any-made (λ n. n == m) held_by value fields) ∙ t)
 held_live schema rows m (Map home items) h t =
-    let p = λ (i : MapItem). fits_place schema rows i.value (item_wants schema home) in
+    let p = λ (i : MapItem). fits_place schema rows i.value (item_expects schema home) in
     let value = λ (i : MapItem). i.value in
     let two = and_parts (rise (map (λ (i : MapItem). i.number) items) && keys_differ (map (λ (i : MapItem). i.key) items)) (list_all p items) h in
-    all_and_any p (λ i. holds m i.value) items (is_live rows m) (λ i. fits_live schema rows m i.value (item_wants schema home)) two.1 (sym (list_any-made (λ n. n == m) held_by value items) ∙ t)
+    all_and_any p (λ i. holds m i.value) items (is_live rows m) (λ i. fits_live schema rows m i.value (item_expects schema home)) two.1 (sym (list_any-made (λ n. n == m) held_by value items) ∙ t)
 held_live schema rows m (Array home values) h t =
-    let p = λ (v : Value). fits_place schema rows v (item_wants schema home) in
+    let p = λ (v : Value). fits_place schema rows v (item_expects schema home) in
     let two = and_parts (not (is_filtered schema home) || differ values) (list_all p values) h in
-    all_and_any p (holds m) values (is_live rows m) (λ v. fits_live schema rows m v (item_wants schema home)) two.1 (sym (list_any-flat_map (λ n. n == m) held_by values) ∙ t)
+    all_and_any p (holds m) values (is_live rows m) (λ v. fits_live schema rows m v (item_expects schema home)) two.1 (sym (list_any-flat_map (λ n. n == m) held_by values) ∙ t)
 held_live schema rows m (Set home items) h t =
-    let p = λ (i : SetItem). fits_place schema rows i.value (item_wants schema home) in
+    let p = λ (i : SetItem). fits_place schema rows i.value (item_expects schema home) in
     let value = λ (i : SetItem). i.value in
     let two = and_parts (rise (map (λ (i : SetItem). i.number) items)) (list_all p items) h in
-    all_and_any p (λ i. holds m i.value) items (is_live rows m) (λ i. fits_live schema rows m i.value (item_wants schema home)) two.1 (sym (list_any-made (λ n. n == m) held_by value items) ∙ t)
+    all_and_any p (λ i. holds m i.value) items (is_live rows m) (λ i. fits_live schema rows m i.value (item_expects schema home)) two.1 (sym (list_any-made (λ n. n == m) held_by value items) ∙ t)

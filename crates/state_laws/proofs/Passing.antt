@@ -52,7 +52,7 @@ module _ {E : Type 0} (key : E → ℕ) where
   list_any-found p [] k e h t = cc
   list_any-found p (x ∷ es) k e h t = grind (arith, nat_tests, list_any-found p es k e)
 
-  -- what is found behind the first item of a rising list is found with it in front
+  -- what is found behind the first item of a rising list is found with it before it
   pub found_behind : (x : E) (xs : List E) (k : ℕ) (e : E) → RisesFrom key (suc (key x)) xs → find key k xs ≡ Some e → find key k (x ∷ xs) ≡ Some e
   found_behind x xs k e r h = grind (arith, nat_tests, find_below key (suc (key x)) xs k r)
 

@@ -13,9 +13,9 @@ use Rattle.state_model.specs.declared.command.Command.TheVariants.{Make, MakeFor
 use Rattle.state_model.specs.declared.command.TableFault.{TableFault}
 use Rattle.state_model.specs.declared.command.TableFault.TheVariants as fault
 use Rattle.state_model.specs.Rows.{put_row}
-use Rattle.state_model.specs.declared.place.Wanted.TheVariants.{Item as AnItem, Collection as ACollection}
+use Rattle.state_model.specs.declared.place.Expected.TheVariants.{Item as AnItem, Collection as ACollection}
 use Rattle.state_model.specs.State.{State, ItemCount, new_state}
-use Rattle.state_model.specs.Commands.{holder_of, value_put, named_by, made_row, makes_row, has_key, has_value, put_key, wanted_for, gives_number, adds_place, edited, counts_items, put_count, with_new, with_change, row_for, number_made, do_command}
+use Rattle.state_model.specs.Commands.{holder_of, value_put, named_by, made_row, makes_row, has_key, has_value, put_key, expected_for, gives_number, adds_place, edited, counts_items, put_count, with_new, with_change, row_for, number_made, do_command}
 use Rattle.state_model.proofs.Examples as ex
 use Rattle.state_model.proofs.Zoo as z
 
@@ -57,12 +57,12 @@ only_what_is_declared_is_made = refl
 the_row_of_a_command_is_its_holders : map (row_for z.zoo_rows) (Make 2 ∷ Unset 5 0 ∷ Unset 9 0 ∷ []) ≡ None ∷ Some z.tom ∷ None ∷ []
 the_row_of_a_command_is_its_holders = refl
 
--- a field's place wants what the field is declared to hold, an item's what the home says; another holder wants nothing
-a_place_wants_what_is_declared : map (λ c. wanted_for z.zoo c (row_for z.zoo_rows c))
+-- a field's place expects what the field is declared to hold, an item's what the home says; another holder expects nothing
+a_place_expects_what_is_declared : map (λ c. expected_for z.zoo c (row_for z.zoo_rows c))
     (Put 4 1 (Link 6) ∷ Put 4 3 (Link 6) ∷ PutKey 1 (codes "ada") (Link 5) ∷ Push 6 (Whole (pos 9)) ∷ Add 3 (Str []) ∷ Push 4 (Link 6) ∷ Make 2 ∷ [])
     ≡ Some (ACollection (ex.home 1 1)) ∷ None ∷ Some (AnItem (item.Class 1)) ∷ Some (AnItem (item.Scalar kind.Number))
     ∷ Some (AnItem (item.Scalar kind.Str)) ∷ None ∷ None ∷ []
-a_place_wants_what_is_declared = refl
+a_place_expects_what_is_declared = refl
 
 a_new_key_or_value_gets_a_number : map (λ c. gives_number c (row_for z.zoo_rows c))
     (PutKey 1 (codes "ada") (Link 5) ∷ PutKey 1 (codes "tom") (Link 5) ∷ Add 3 (Str (codes "shut")) ∷ Add 3 (Str (codes "open"))

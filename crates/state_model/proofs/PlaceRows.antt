@@ -12,8 +12,8 @@ use Rattle.state_model.specs.declared.row.Row.TheVariants.{Struct, Map, Array, S
 use Rattle.state_model.specs.Values.{same_whole, same_truth, same_value, held_by, is_link, text_size}
 use Rattle.state_model.specs.Rows.{numbers_of, row_at, is_live, values_in, held_in, rows_of, place_count, key_bytes, text_bytes_of, emptied, kinds_of, put_row, root_alone}
 use Rattle.state_model.specs.State.{new_state, next_item, swept, rows_limit, places_limit, text_limit, one_text_limit, last_number}
-use Rattle.state_model.specs.declared.place.Wanted.TheVariants.{Item as AnItem, Collection as ACollection}
-use Rattle.state_model.specs.Places.{is_collection, wanted_by, wanted_of, field_wants, item_wants, tag_of, home_tag, instance_class, holds_instances, is_array, is_filtered, collection_of, empty_collection, same_home, same_kind, row_home, row_class}
+use Rattle.state_model.specs.declared.place.Expected.TheVariants.{Item as AnItem, Collection as ACollection}
+use Rattle.state_model.specs.Places.{is_collection, expected_by, expected_of, field_expects, item_expects, tag_of, home_tag, instance_class, holds_instances, is_array, is_filtered, collection_of, empty_collection, same_home, same_kind, row_home, row_class}
 use Rattle.state_model.proofs.Examples as ex
 use Rattle.state_model.proofs.Zoo as z
 
@@ -147,23 +147,23 @@ all_shapes_but_one_item_are_collections = refl
 an_array_alone_is_an_array : map is_array shapes ≡ false ∷ false ∷ true ∷ false ∷ []
 an_array_alone_is_an_array = refl
 
-a_collection_field_wants_a_collection_of_its_home : map (λ s. wanted_by s (ex.home 0 3)) shapes
+a_collection_field_expects_a_collection_of_its_home : map (λ s. expected_by s (ex.home 0 3)) shapes
     ≡ AnItem (item.Class 1) ∷ ACollection (ex.home 0 3) ∷ ACollection (ex.home 0 3) ∷ ACollection (ex.home 0 3) ∷ []
-a_collection_field_wants_a_collection_of_its_home = refl
+a_collection_field_expects_a_collection_of_its_home = refl
 
 abbrev declared_by : ℕ → Shape → Declared
 declared_by c s = record { class = c; field = ex.plain_field (codes "f") s }
 
-a_home_is_of_the_declaring_class : wanted_of 4 (declared_by 2 (shape.Set (item.Scalar kind.Str))) ≡ ACollection (ex.home 2 4)
+a_home_is_of_the_declaring_class : expected_of 4 (declared_by 2 (shape.Set (item.Scalar kind.Str))) ≡ ACollection (ex.home 2 4)
 a_home_is_of_the_declaring_class = refl
 
 -- field 1 of a dog is declared by its parent; a dog has no field 3, and there is no class 3
-an_inherited_field_wants_its_parents_home : map (λ (p : ℕ × ℕ). field_wants z.zoo p.0 p.1) ((2, 1) ∷ (2, 2) ∷ (0, 3) ∷ (2, 3) ∷ (3, 0) ∷ [])
+an_inherited_field_expects_its_parents_home : map (λ (p : ℕ × ℕ). field_expects z.zoo p.0 p.1) ((2, 1) ∷ (2, 2) ∷ (0, 3) ∷ (2, 3) ∷ (3, 0) ∷ [])
     ≡ Some (ACollection (ex.home 1 1)) ∷ Some (AnItem (item.Scalar kind.U8)) ∷ Some (AnItem (item.Class 1)) ∷ None ∷ None ∷ []
-an_inherited_field_wants_its_parents_home = refl
+an_inherited_field_expects_its_parents_home = refl
 
 -- an inherited field's home isn't of the class that inherits
-items_want_what_their_home_declares : map (item_wants z.zoo) (ex.home 0 0 ∷ ex.home 0 2 ∷ ex.home 2 1 ∷ ex.home 0 6 ∷ [])
+items_want_what_their_home_declares : map (item_expects z.zoo) (ex.home 0 0 ∷ ex.home 0 2 ∷ ex.home 2 1 ∷ ex.home 0 6 ∷ [])
     ≡ Some (AnItem (item.Class 1)) ∷ Some (AnItem (item.Scalar kind.Str)) ∷ None ∷ None ∷ []
 items_want_what_their_home_declares = refl
 

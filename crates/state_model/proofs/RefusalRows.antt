@@ -13,7 +13,7 @@ use Rattle.state_model.specs.declared.command.Command.{Command}
 use Rattle.state_model.specs.declared.command.Command.TheVariants.{Make, MakeFor, Put, Unset, PutKey, DelKey, Push, SetAt, DelAt, Add, Del, Clear}
 use Rattle.state_model.specs.declared.command.TableFault.{TableFault}
 use Rattle.state_model.specs.declared.command.TableFault.TheVariants as fault
-use Rattle.state_model.specs.declared.place.Wanted.TheVariants.{Item as AnItem}
+use Rattle.state_model.specs.declared.place.Expected.TheVariants.{Item as AnItem}
 use Rattle.state_model.specs.State.{State}
 use Rattle.state_model.specs.Commands.{is_no_field, is_no_item, is_wrong_type, is_past_range, is_cycle, is_duplicate, is_long_text, is_long_key, is_present, first_cause, causes_over, refusal_of, answer_of, do_command}
 use Rattle.state_model.proofs.Examples as ex

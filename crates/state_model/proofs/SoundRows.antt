@@ -8,9 +8,9 @@ use Rattle.state_model.specs.declared.row.Row.{Row}
 use Rattle.state_model.specs.declared.row.Row.TheVariants.{Struct, Map, Array, Set}
 use Rattle.state_model.specs.declared.row.RowEntry.{RowEntry}
 use Rattle.state_model.specs.Rows.{put_row, root_alone}
-use Rattle.state_model.specs.declared.place.Wanted.{Wanted}
-use Rattle.state_model.specs.declared.place.Wanted.TheVariants.{Item as AnItem, Collection as ACollection}
-use Rattle.state_model.specs.Sound.{rise, differ, keys_differ, is_instance_of, is_collection_of, is_of_type, is_out_of_range, fits_wanted, fits_place, has_kind, places_fit, set_differs, has_root, are_rows_of, are_sound, Sound}
+use Rattle.state_model.specs.declared.place.Expected.{Expected}
+use Rattle.state_model.specs.declared.place.Expected.TheVariants.{Item as AnItem, Collection as ACollection}
+use Rattle.state_model.specs.Sound.{rise, differ, keys_differ, is_instance_of, is_collection_of, is_of_type, is_out_of_range, fits_expected, fits_place, has_kind, places_fit, set_differs, has_root, are_rows_of, are_sound, Sound}
 use Rattle.state_model.proofs.Examples as ex
 use Rattle.state_model.proofs.Zoo as z
 
@@ -43,7 +43,7 @@ a_collection_is_of_one_home : map (is_collection_of (ex.home 0 0)) (Some z.pets 
     ≡ true ∷ false ∷ false ∷ false ∷ []
 a_collection_is_of_one_home = refl
 
-abbrev is_of : Wanted → Value → Bool
+abbrev is_of : Expected → Value → Bool
 is_of = is_of_type z.zoo z.zoo_rows
 
 a_scalar_is_of_its_kind_whatever_its_range : map (is_of (AnItem (item.Scalar kind.U8)))
@@ -66,8 +66,8 @@ a_place_of_links_has_no_range : map (λ w. is_out_of_range w (Whole (pos 300))) 
     ≡ false ∷ false ∷ []
 a_place_of_links_has_no_range = refl
 
-abbrev fits_in : Wanted → Value → Bool
-fits_in = fits_wanted z.zoo z.zoo_rows
+abbrev fits_in : Expected → Value → Bool
+fits_in = fits_expected z.zoo z.zoo_rows
 
 a_scalar_fits_its_kind_and_range : map (fits_in (AnItem (item.Scalar kind.U8))) (Whole (pos 255) ∷ Whole (pos 256) ∷ Str (codes "7") ∷ [])
     ≡ true ∷ false ∷ false ∷ []

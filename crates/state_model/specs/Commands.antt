@@ -19,8 +19,8 @@ use Rattle.state_model.specs.declared.command.TableFault.{TableFault}
 use Rattle.state_model.specs.declared.command.TableFault.TheVariants as fault
 use Rattle.state_model.specs.Values.{same_value, held_by}
 use Rattle.state_model.specs.Rows.{row_at, is_live, put_row, place_count, text_bytes_of}
-use Rattle.state_model.specs.declared.place.Wanted.{Wanted}
-use Rattle.state_model.specs.Places.{field_wants, item_wants, is_filtered, empty_collection, row_home}
+use Rattle.state_model.specs.declared.place.Expected.{Expected}
+use Rattle.state_model.specs.Places.{field_expects, item_expects, is_filtered, empty_collection, row_home}
 use Rattle.state_model.specs.Reached.{makes_cycle}
 use Rattle.state_model.specs.Sound.{is_of_type, is_out_of_range}
 use Rattle.state_model.specs.State.{State, ItemCount, next_item, rows_limit, places_limit, text_limit, one_text_limit, last_number}
@@ -94,8 +94,8 @@ is_no_ref rows c = list_any (λ n. not (is_live rows n)) (named_by c)
 abbrev pub is_no_field : Schema → Command → Option Row → Bool
 is_no_field schema (Make class) row = is_none (made_row schema (Make class))
 is_no_field schema (MakeFor home) row = is_none (made_row schema (MakeFor home))
-is_no_field schema (Put r f v) (Some (Struct class fields)) = is_none (field_wants schema class f)
-is_no_field schema (Unset r f) (Some (Struct class fields)) = is_none (field_wants schema class f)
+is_no_field schema (Put r f v) (Some (Struct class fields)) = is_none (field_expects schema class f)
+is_no_field schema (Unset r f) (Some (Struct class fields)) = is_none (field_expects schema class f)
 is_no_field schema (PutKey r k v) (Some (Map home items)) = false
 is_no_field schema (DelKey r k) (Some (Map home items)) = false
 is_no_field schema (Push r v) (Some (Array home values)) = false
@@ -118,19 +118,19 @@ is_no_item (Del r v) (Some (Set home items)) = not (has_value items v)
 is_no_item c row = false
 
 -- what the place of the value is declared to hold
-abbrev pub wanted_for : Schema → Command → Option Row → Option Wanted
-wanted_for schema (Put r f v) (Some (Struct class fields)) = field_wants schema class f
-wanted_for schema c row = option_and_then (item_wants schema) (option_and_then row_home row)
+abbrev pub expected_for : Schema → Command → Option Row → Option Expected
+expected_for schema (Put r f v) (Some (Struct class fields)) = field_expects schema class f
+expected_for schema c row = option_and_then (item_expects schema) (option_and_then row_home row)
 
 -- WrongType: the value isn't of what is declared
-abbrev pub is_wrong_type : Schema → List RowEntry → Option Value → Option Wanted → Bool
-is_wrong_type schema rows (Some v) (Some wanted) = not (is_of_type schema rows wanted v)
-is_wrong_type schema rows v wanted = false
+abbrev pub is_wrong_type : Schema → List RowEntry → Option Value → Option Expected → Bool
+is_wrong_type schema rows (Some v) (Some expected) = not (is_of_type schema rows expected v)
+is_wrong_type schema rows v expected = false
 
 -- OutOfRange: a whole number outside its kind's range
-abbrev pub is_past_range : Option Value → Option Wanted → Bool
-is_past_range (Some v) (Some wanted) = is_out_of_range wanted v
-is_past_range v wanted = false
+abbrev pub is_past_range : Option Value → Option Expected → Bool
+is_past_range (Some v) (Some expected) = is_out_of_range expected v
+is_past_range v expected = false
 
 -- Cycle: the linked instance reaches the holder
 abbrev pub is_cycle : List RowEntry → Option ℕ → Option Value → Bool
@@ -239,8 +239,8 @@ causes_over schema s c row =
     (is_no_ref s.rows c, fault.NoRef)
     ∷ (is_no_field schema c row, fault.NoField)
     ∷ (is_no_item c row, fault.NoItem)
-    ∷ (is_wrong_type schema s.rows (value_put c) (wanted_for schema c row), fault.WrongType)
-    ∷ (is_past_range (value_put c) (wanted_for schema c row), fault.OutOfRange)
+    ∷ (is_wrong_type schema s.rows (value_put c) (expected_for schema c row), fault.WrongType)
+    ∷ (is_past_range (value_put c) (expected_for schema c row), fault.OutOfRange)
     ∷ (is_cycle s.rows (holder_of c) (value_put c), fault.Cycle)
     ∷ (is_duplicate schema c row, fault.Duplicate)
     ∷ (makes_row c && nat_le rows_limit (length s.rows), fault.InstancesFull)

@@ -8,8 +8,8 @@ use Rattle.schema_model.specs.declared.class.Item.TheVariants as item
 use Rattle.schema_model.specs.declared.class.Shape.{Shape}
 use Rattle.schema_model.specs.declared.class.Shape.TheVariants as shape
 use Rattle.schema_model.specs.declared.place.Home.{Home}
-use Rattle.state_model.specs.declared.place.Wanted.{Wanted}
-use Rattle.state_model.specs.declared.place.Wanted.TheVariants.{Item as AnItem, Collection as ACollection}
+use Rattle.state_model.specs.declared.place.Expected.{Expected}
+use Rattle.state_model.specs.declared.place.Expected.TheVariants.{Item as AnItem, Collection as ACollection}
 use Rattle.state_model.specs.declared.row.Row.{Row}
 use Rattle.state_model.specs.declared.row.Row.TheVariants.{Struct, Map, Array, Set}
 
@@ -21,23 +21,23 @@ is_collection (shape.Array i) = true
 is_collection (shape.Set i) = true
 
 -- what a field of this shape and home holds
-abbrev pub wanted_by : Shape → Home → Wanted
-wanted_by (shape.One i) home = AnItem i
-wanted_by (shape.Map i) home = ACollection home
-wanted_by (shape.Array i) home = ACollection home
-wanted_by (shape.Set i) home = ACollection home
+abbrev pub expected_by : Shape → Home → Expected
+expected_by (shape.One i) home = AnItem i
+expected_by (shape.Map i) home = ACollection home
+expected_by (shape.Array i) home = ACollection home
+expected_by (shape.Set i) home = ACollection home
 
 -- what a field of a class holds
-abbrev pub wanted_of : ℕ → Declared → Wanted
-wanted_of index d = wanted_by d.field.shape (record { class = d.class; field = index })
+abbrev pub expected_of : ℕ → Declared → Expected
+expected_of index d = expected_by d.field.shape (record { class = d.class; field = index })
 
 -- what the field of a class at an index holds; None where there is no such field
-abbrev pub field_wants : Schema → ℕ → ℕ → Option Wanted
-field_wants schema class index = option_map (wanted_of index) (slice_get (fields_of schema class) index)
+abbrev pub field_expects : Schema → ℕ → ℕ → Option Expected
+field_expects schema class index = option_map (expected_of index) (slice_get (fields_of schema class) index)
 
 -- what the items of a collection hold
-abbrev pub item_wants : Schema → Home → Option Wanted
-item_wants schema home = option_map (λ (f : FieldDecl). AnItem (item_of f.shape)) (home_field schema home)
+abbrev pub item_expects : Schema → Home → Option Expected
+item_expects schema home = option_map (λ (f : FieldDecl). AnItem (item_of f.shape)) (home_field schema home)
 
 -- the tag of a field of a class
 abbrev pub tag_of : Schema → ℕ → ℕ → Option ℤ

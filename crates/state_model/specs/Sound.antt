@@ -17,9 +17,9 @@ use Rattle.state_model.specs.declared.row.MapItem.{MapItem}
 use Rattle.state_model.specs.declared.row.SetItem.{SetItem}
 use Rattle.state_model.specs.Values.{same_value}
 use Rattle.state_model.specs.Rows.{row_at, number_of}
-use Rattle.state_model.specs.declared.place.Wanted.{Wanted}
-use Rattle.state_model.specs.declared.place.Wanted.TheVariants.{Item as AnItem, Collection as ACollection}
-use Rattle.state_model.specs.Places.{field_wants, item_wants, is_filtered, empty_collection, same_kind, same_home, row_home, row_class}
+use Rattle.state_model.specs.declared.place.Expected.{Expected}
+use Rattle.state_model.specs.declared.place.Expected.TheVariants.{Item as AnItem, Collection as ACollection}
+use Rattle.state_model.specs.Places.{field_expects, item_expects, is_filtered, empty_collection, same_kind, same_home, row_home, row_class}
 
 -- the numbers rise strictly
 abbrev pub rise : List ℕ → Bool
@@ -48,26 +48,26 @@ is_collection_of home None = false
 is_collection_of home (Some row) = option_map_or (same_home home) (row_home row) false
 
 -- a value is of the declared kind, whatever its range: a scalar of the kind, an instance of the class or a descendant, a collection of the home
-abbrev pub is_of_type : Schema → List RowEntry → Wanted → Value → Bool
+abbrev pub is_of_type : Schema → List RowEntry → Expected → Value → Bool
 is_of_type schema rows (AnItem (item.Scalar k)) v = is_of_kind k v
 is_of_type schema rows (AnItem (item.Class c)) (value.Link n) = is_instance_of schema c (row_at rows n)
 is_of_type schema rows (ACollection home) (value.Link n) = is_collection_of home (row_at rows n)
-is_of_type schema rows wanted v = false
+is_of_type schema rows expected v = false
 
 -- a whole number is outside the range of its declared kind
-abbrev pub is_out_of_range : Wanted → Value → Bool
+abbrev pub is_out_of_range : Expected → Value → Bool
 is_out_of_range (AnItem (item.Scalar k)) (value.Whole z) = not (in_range k z)
-is_out_of_range wanted v = false
+is_out_of_range expected v = false
 
 -- a value fits what is declared: a scalar of the kind and in its range, or a link to a row of the declared kind
-abbrev pub fits_wanted : Schema → List RowEntry → Wanted → Value → Bool
-fits_wanted schema rows (AnItem (item.Scalar k)) v = fits k v
-fits_wanted schema rows wanted v = is_of_type schema rows wanted v
+abbrev pub fits_expected : Schema → List RowEntry → Expected → Value → Bool
+fits_expected schema rows (AnItem (item.Scalar k)) v = fits k v
+fits_expected schema rows expected v = is_of_type schema rows expected v
 
 -- a value fits what is declared, where something is
-abbrev pub fits_place : Schema → List RowEntry → Value → Option Wanted → Bool
+abbrev pub fits_place : Schema → List RowEntry → Value → Option Expected → Bool
 fits_place schema rows v None = false
-fits_place schema rows v (Some wanted) = fits_wanted schema rows wanted v
+fits_place schema rows v (Some expected) = fits_expected schema rows expected v
 
 -- the row is of a class of the schema, or of the home and the shape of a declared collection field
 abbrev pub has_kind : Schema → Row → Bool
@@ -78,16 +78,16 @@ has_kind schema row = option_map_or (λ home. option_map_or (same_kind row) (emp
 abbrev pub places_fit : Schema → List RowEntry → Row → Bool
 places_fit schema rows (Struct class fields) =
     rise (map (λ (f : FieldValue). f.field) fields)
-    && list_all (λ (f : FieldValue). fits_place schema rows f.value (field_wants schema class f.field)) fields
+    && list_all (λ (f : FieldValue). fits_place schema rows f.value (field_expects schema class f.field)) fields
 places_fit schema rows (Map home items) =
     rise (map (λ (i : MapItem). i.number) items) && keys_differ (map (λ (i : MapItem). i.key) items)
-    && list_all (λ (i : MapItem). fits_place schema rows i.value (item_wants schema home)) items
+    && list_all (λ (i : MapItem). fits_place schema rows i.value (item_expects schema home)) items
 places_fit schema rows (Array home values) =
     (not (is_filtered schema home) || differ values)
-    && list_all (λ v. fits_place schema rows v (item_wants schema home)) values
+    && list_all (λ v. fits_place schema rows v (item_expects schema home)) values
 places_fit schema rows (Set home items) =
     rise (map (λ (i : SetItem). i.number) items)
-    && list_all (λ (i : SetItem). fits_place schema rows i.value (item_wants schema home)) items
+    && list_all (λ (i : SetItem). fits_place schema rows i.value (item_expects schema home)) items
 
 -- the values of a set differ
 abbrev pub set_differs : Row → Bool

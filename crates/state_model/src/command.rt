@@ -1,5 +1,8 @@
-use lists::Text;
+ghost use Rattle.std.specs.Prelude.{◌≡◌, IfOk};
+
+use lists::{Memory, Text};
 use schema_model::{Home, RefNum, TypeNum, Value};
+use std::alloc::Global;
 use thiserror::Error;
 
 /// A change of the state.
@@ -29,6 +32,30 @@ pub enum Command {
     Del(RefNum, Value),
     /// Takes all items of a collection away.
     Clear(RefNum),
+}
+
+impl Command {
+    /// The same command again.
+    pub fn copy(&self, alloc: Global) -> Result<Command, Memory>
+        ensures { IfOk result (λ c. c ≡ self.now) }
+    {
+        Ok(match self {
+            Command::Make(class) => Command::Make(*class),
+            Command::MakeFor(home) => Command::MakeFor(*home),
+            Command::Put(row, field, value) => Command::Put(*row, *field, value.copy(alloc)?),
+            Command::Unset(row, field) => Command::Unset(*row, *field),
+            Command::PutKey(row, key, value) => {
+                Command::PutKey(*row, key.copy(alloc)?, value.copy(alloc)?)
+            }
+            Command::DelKey(row, key) => Command::DelKey(*row, key.copy(alloc)?),
+            Command::Push(row, value) => Command::Push(*row, value.copy(alloc)?),
+            Command::SetAt(row, at, value) => Command::SetAt(*row, *at, value.copy(alloc)?),
+            Command::DelAt(row, at) => Command::DelAt(*row, *at),
+            Command::Add(row, value) => Command::Add(*row, value.copy(alloc)?),
+            Command::Del(row, value) => Command::Del(*row, value.copy(alloc)?),
+            Command::Clear(row) => Command::Clear(*row),
+        })
+    }
 }
 
 /// Why a command was refused, in the order in which the causes are tested.

@@ -4,11 +4,11 @@
 pub mod command;
 pub mod place;
 pub mod row;
-pub mod rows;
-pub mod worded;
+mod rows;
+mod worded;
 
 pub use command::{Command, TableFault};
-pub use place::{Wanted, field_wants, is_filtered, item_wants};
+pub use place::{Expected, field_expects, is_filtered, item_expects};
 pub use row::{
     FieldValue, FieldValues, MapItem, MapItems, Row, RowEntry, SetItem, SetItems, Values,
     copy_field_values, copy_map_items, copy_set_items, copy_values,

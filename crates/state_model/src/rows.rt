@@ -50,7 +50,7 @@ impl Rows {
     pub fn root_alone(alloc: Global, schema: &Schema) -> Result<Rows, Memory>
         ensures { IfOk result (λ r. r ≡ root_alone schema.now) }
     {
-        let mut entries = Rising::with_room(alloc, 1)?;
+        let mut entries = Rising::with_capacity(alloc, 1)?;
         entries.push(RowEntry {
             who: RefNum(0),
             row: Row::Struct(schema.root, Rising::new(alloc)),

@@ -1,30 +1,11 @@
-//! What the types of a command's parts say of its texts. The functions do nothing else than to say so.
+//! What the types of a command's parts say of its texts.
 ghost use Rattle.std.specs.Prelude.{◌≡◌, true};
-ghost use Rattle.std.specs.Str.{is_utf8};
-ghost use Rattle.schema_model.specs.Fits.{is_worded};
 ghost use Rattle.state_model.specs.Worded.{is_worded_command};
 
 use crate::Command;
-use lists::Text;
-use schema_model::Value;
+use schema_model::{know_text, know_value};
 
-// A text is UTF-8.
-fn know_text(text: &Text)
-    ensures { is_utf8 text.now ≡ true }
-{
-    let _ = text.as_str();
-}
-
-// So is a value that is one.
-fn know_value(value: &Value)
-    ensures { is_worded value.now ≡ true }
-{
-    if let Value::Str(text) = value {
-        know_text(text);
-    }
-}
-
-/// The texts that a command puts are UTF-8.
+/// The texts that a command puts are UTF-8. It does nothing else than to say so.
 pub fn know_texts(command: &Command)
     ensures { is_worded_command command.now ≡ true }
 {

@@ -1,6 +1,6 @@
 //! Counted steps.
 #![tactic(auto)]
 
-pub mod counter;
+mod counter;
 
 pub use counter::Steps;

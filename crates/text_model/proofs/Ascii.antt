@@ -1,23 +1,9 @@
 -- Names are ASCII.
-use Rattle.std.proofs.Common.{◌≡◌, ℕ, ◌<◌, true, List, [], ◌∷◌, ◌&&◌, not, arith}
+use Rattle.std.proofs.Common.{◌≡◌, ℕ, true, List, [], ◌∷◌, ◌&&◌, not, arith}
 use Rattle.std.specs.List.{list_all}
-use Rattle.std.specs.Str.{IsAscii, is_utf8}
 use Rattle.std.proofs.lemmas.Bool.{and_parts, and_from}
 use Rattle.std.proofs.lemmas.Bool.Decides.{nat_tests}
-use Rattle.std.proofs.lemmas.Str.{is_utf8-from_IsUtf8, IsUtf8-from_ascii}
-use Rattle.std.proofs.lemmas.Str.Ascii.{IsAscii-nil, IsAscii-cons}
 use Rattle.text_model.specs.Marks.{has_name_length, is_id_byte, is_name_byte, is_class_name, is_field_name, is_one_of, is_room_name, kind_words, shape_words}
-
-small_byte : (b : ℕ) → is_id_byte b ≡ true → b < 128
-small_byte b h = grind (arith, nat_tests)
-
-IsAscii-id_bytes : (w : List ℕ) → list_all is_id_byte w ≡ true → IsAscii w
-IsAscii-id_bytes [] h = IsAscii-nil
-IsAscii-id_bytes (b ∷ w) h =
-    let p = and_parts (is_id_byte b) (list_all is_id_byte w) h in IsAscii-cons b w (small_byte b p.0) (IsAscii-id_bytes w p.1)
-
-pub utf8_from_id_bytes : (w : List ℕ) → list_all is_id_byte w ≡ true → is_utf8 w ≡ true
-utf8_from_id_bytes w h = is_utf8-from_IsUtf8 w (IsUtf8-from_ascii w (IsAscii-id_bytes w h))
 
 id_byte_from_name : (b : ℕ) → is_name_byte b ≡ true → is_id_byte b ≡ true
 id_byte_from_name b h = grind (arith, nat_tests)

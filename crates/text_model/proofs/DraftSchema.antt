@@ -9,7 +9,7 @@ use Rattle.schema_model.specs.Classes.{Declared, inherited, fields_from, is_earl
 use Rattle.schema_model.specs.declared.class.Class.{Class}
 use Rattle.schema_model.specs.declared.class.FieldDecl.{FieldDecl}
 use Rattle.schema_model.proofs.FieldCounts.{is_small}
-use Rattle.schema_model.proofs.FieldTables.{declared_by, fields_next, at_front}
+use Rattle.schema_model.proofs.FieldTables.{declared_by, fields_next, at_prefix}
 use Rattle.state_model.specs.Sound.{keys_differ}
 use Rattle.text_model.specs.Marks.{is_class_name, is_field_name, is_one_of}
 use Rattle.text_model.specs.declared.draft.DraftField.{DraftField}
@@ -48,8 +48,8 @@ parent_same : (cs earlier rest : List DraftClass) (p : Option ℕ) → cs ≡ ea
     → parent_name (classes_of cs) p ≡ draft_parent earlier p
 parent_same cs earlier rest None e h = refl
 parent_same cs earlier rest (Some n) e h =
-    let front = at_front earlier rest n (ltb-true n (length earlier) h) in
-    ap Some (class_name_of cs cs n ∙ (ap (λ l. draft_name l n) e ∙ ap (λ o. option_map_or (λ (c : DraftClass). c.name) o []) front))
+    let prefix = at_prefix earlier rest n (ltb-true n (length earlier) h) in
+    ap Some (class_name_of cs cs n ∙ (ap (λ l. draft_name l n) e ∙ ap (λ o. option_map_or (λ (c : DraftClass). c.name) o []) prefix))
 
 classes_same : (cs earlier rest : List DraftClass) (n : ℕ) → cs ≡ earlier ++ rest → n ≡ length earlier → parents_before n rest ≡ true
     → list_all (are_known cs) rest ≡ true

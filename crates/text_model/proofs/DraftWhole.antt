@@ -77,18 +77,18 @@ parents_at n (x ∷ xs) c cs k e h =
     parents_at (suc n) xs c cs k (omega arith) (and_parts (is_earlier n x.parent) (parents_before (suc n) (xs ++ c ∷ cs)) h).1
 
 -- the names of more classes' fields stand behind these
-names_front : (table : List (List (List ℕ))) (cs : List DraftClass) → list_all are_field_names (names_from table cs) ≡ true
+names_prefix : (table : List (List (List ℕ))) (cs : List DraftClass) → list_all are_field_names (names_from table cs) ≡ true
     → list_all are_field_names table ≡ true
-names_front table [] h = h
-names_front table (c ∷ cs) h =
-    (and_parts _ _ (sym (list_all-append are_field_names table (names_next table c ∷ [])) ∙ names_front (table ++ names_next table c ∷ []) cs h)).0
+names_prefix table [] h = h
+names_prefix table (c ∷ cs) h =
+    (and_parts _ _ (sym (list_all-append are_field_names table (names_next table c ∷ [])) ∙ names_prefix (table ++ names_next table c ∷ []) cs h)).0
 
 names_here : (earlier : List DraftClass) (c : DraftClass) (cs : List DraftClass)
     → list_all are_field_names (names_from [] (earlier ++ c ∷ cs)) ≡ true → are_field_names (names_next (names_from [] earlier) c) ≡ true
 names_here earlier c cs h =
     let table = names_from [] earlier in
-    let front = names_front (table ++ names_next table c ∷ []) cs (ap (list_all are_field_names) (sym (names_from-append [] earlier (c ∷ cs))) ∙ h) in
-    let last = and_parts (list_all are_field_names table) _ (sym (list_all-append are_field_names table (names_next table c ∷ [])) ∙ front) in
+    let prefix = names_prefix (table ++ names_next table c ∷ []) cs (ap (list_all are_field_names) (sym (names_from-append [] earlier (c ∷ cs))) ∙ h) in
+    let last = and_parts (list_all are_field_names table) _ (sym (list_all-append are_field_names table (names_next table c ∷ [])) ∙ prefix) in
     (and_parts (are_field_names (names_next table c)) true last.1).0
 
 class_behind : (earlier : List DraftClass) (c : DraftClass) (cs : List DraftClass) → AreWhole (earlier ++ c ∷ cs) → IsClassBehind earlier c

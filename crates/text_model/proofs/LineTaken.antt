@@ -170,7 +170,7 @@ last_field_step line cs c fs name g w t d r n i h =
     )
 
 -- some classes are the last one, and those before it
-last_of_some : (cs : List DraftClass) → eqb (length cs) 0 ≡ false → (front : List DraftClass) × (c : DraftClass) × (cs ≡ front ++ c ∷ [])
+last_of_some : (cs : List DraftClass) → eqb (length cs) 0 ≡ false → (prefix : List DraftClass) × (c : DraftClass) × (cs ≡ prefix ++ c ∷ [])
 last_of_some [] h = absurd (true≢false h)
 last_of_some (c ∷ []) h = ([], c, refl)
 last_of_some (c ∷ e ∷ cs) h =

@@ -245,8 +245,8 @@ who_line w r s own h k = and_from _ _ own (and_from _ _ (id_plain r h) (and_from
 reply_is : (conn : ℕ) (json : List ℕ) → is_number conn ≡ true → is_one_line json ≡ true → out_of (words_of (spaced (out_words (Reply conn json)))) ≡ Some (Reply conn json)
 reply_is conn json h k = by_words (words_of json) refl
   where
-    front : words_of (codes "reply" ++ 32 ∷ (decimal conn ++ 32 ∷ json)) ≡ codes "reply" ∷ decimal conn ∷ words_of json
-    front =
+    prefix : words_of (codes "reply" ++ 32 ∷ (decimal conn ++ 32 ∷ json)) ≡ codes "reply" ∷ decimal conn ∷ words_of json
+    prefix =
         cut_first 32 (codes "reply") (decimal conn ++ 32 ∷ json) refl
         ∙ ap (λ l. codes "reply" ∷ l) (cut_first 32 (decimal conn) json (lacks_from (leb 33) 32 (decimal conn) refl (long_plain conn h)))
 
@@ -254,7 +254,7 @@ reply_is conn json h k = by_words (words_of json) refl
     by_words [] is = absurd (omega (arith, ap length is, length-slice_split (λ b. eqb b 32) json))
     by_words (v ∷ vs) is =
         let text : spaced (v ∷ vs) ≡ json = ap spaced (sym is) ∙ spaced-words_of json in
-        ap out_of (front ∙ ap (λ ws. codes "reply" ∷ decimal conn ∷ ws) is)
+        ap out_of (prefix ∙ ap (λ ws. codes "reply" ∷ decimal conn ∷ ws) is)
         ∙ both_is Reply _ _ conn json (read_number conn h) (ap (λ t. some_if (is_one_line t) t) text ∙ choose_if (is_one_line json) json k)
 
 pub out_is : (o : HubOut) → is_out o ≡ true → out_of (words_of (spaced (out_words o))) ≡ Some o

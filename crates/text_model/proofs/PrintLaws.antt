@@ -20,7 +20,7 @@ use Rattle.text_model.proofs.LineTaken.{bound_from}
 use Rattle.text_model.proofs.OutLaws.{line_lacks, out_is, out_read}
 use Rattle.text_model.proofs.SchemaLaw.{lines_are_schema, schema_lines_plain}
 use Rattle.text_model.proofs.ScheduleLaws.{behind_of, end_of, joined_again, schema_parted, schema_read, texts_of}
-use Rattle.text_model.proofs.Spaced.{all_append, front_of, front_of_push, lacks, last_of, last_of_push, pieces_of_texts, spaced-words_of, text_of_lines, texts_from_lines}
+use Rattle.text_model.proofs.Spaced.{all_append, prefix_of, prefix_of_push, lacks, last_of, last_of_push, pieces_of_texts, spaced-words_of, text_of_lines, texts_from_lines}
 use Rattle.text_model.proofs.WordLaws.{word_is}
 
 -- ---- outputs
@@ -123,9 +123,9 @@ print_is_read text p h =
     let w = written_of p h.0 in
     let lack = all_append (λ ws. lacks 10 (spaced ws)) (map line_words (lines_of p.schema)) (output_lines p.outs) (texts_from_lines (map line_words (lines_of p.schema)) (schema_lines_plain p.schema w.spelled)) (outs_lack p.outs w.fits) in
     let pieces : pieces_of text ≡ map spaced (all_lines p) ++ [] ∷ [] = ap pieces_of (h.1 ∙ text_is p) ∙ pieces_of_texts (all_lines p) lack in
-    let front : lines_in text ≡ map spaced (all_lines p) = ap front_of pieces ∙ front_of_push (map spaced (all_lines p)) [] in
+    let prefix : lines_in text ≡ map spaced (all_lines p) = ap prefix_of pieces ∙ prefix_of_push (map spaced (all_lines p)) [] in
     let last : behind_lines text ≡ [] = ap last_of pieces ∙ last_of_push (map spaced (all_lines p)) [] in
-    (λ i. with_schema (front i) (last i) (λ n t ls. outs_from n ls (last i) >>= (λ os. Ok (record { schema = t; outs = os })))) ∙ lines_are_read p w
+    (λ i. with_schema (prefix i) (last i) (λ n t ls. outs_from n ls (last i) >>= (λ os. Ok (record { schema = t; outs = os })))) ∙ lines_are_read p w
 
 none_goes_on : {A : Type 0} (n : ℕ) (rest : List ℕ) (f : List (ℕ × HubOut) → Result A Fault) (y : A) → (outs_from n [] rest >>= f) ≡ Ok y → ⊥
 none_goes_on n rest f y h = absurd (cc)

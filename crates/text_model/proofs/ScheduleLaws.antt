@@ -31,7 +31,7 @@ use Rattle.text_model.proofs.LinePlain.{form_plain}
 use Rattle.text_model.proofs.LineTaken.{bound_from}
 use Rattle.text_model.proofs.NamesPlain.{id_plain}
 use Rattle.text_model.proofs.SchemaLaw.{lines_are_schema, schema_lines_formed, schema_lines_plain, schema_lines_read}
-use Rattle.text_model.proofs.Spaced.{all_append, front_of, front_of_push, is_line, is_plain, last_of, last_of_push, pieces_of-lines, spaced-words_of, text_of_lines, words_of-lines, words_of_line}
+use Rattle.text_model.proofs.Spaced.{all_append, prefix_of, prefix_of_push, is_line, is_plain, last_of, last_of_push, pieces_of-lines, spaced-words_of, text_of_lines, words_of-lines, words_of_line}
 use Rattle.text_model.proofs.WordLaws.{word_is}
 use Rattle.text_model.proofs.WordsPlain.{event_plain}
 
@@ -381,9 +381,9 @@ schedule_is_read text s h =
     let w = written_of s h.0 in
     let plain : list_all is_line (all_lines s) ≡ true = all_append is_line (map line_words (lines_of s.schema)) (schedule_lines s) (schema_lines_plain s.schema w.spelled) (schedule_plain s w) in
     let pieces : pieces_of text ≡ map spaced (all_lines s) ++ [] ∷ [] = ap pieces_of (h.1 ∙ text_is s) ∙ pieces_of-lines (all_lines s) plain in
-    let front : lines_in text ≡ map spaced (all_lines s) = ap front_of pieces ∙ front_of_push (map spaced (all_lines s)) [] in
+    let prefix : lines_in text ≡ map spaced (all_lines s) = ap prefix_of pieces ∙ prefix_of_push (map spaced (all_lines s)) [] in
     let last : behind_lines text ≡ [] = ap last_of pieces ∙ last_of_push (map spaced (all_lines s)) [] in
-    (λ i. with_schema (front i) (last i) (λ n t ls. heading_from n t ls (last i))) ∙ lines_are_read s w
+    (λ i. with_schema (prefix i) (last i) (λ n t ls. heading_from n t ls (last i))) ∙ lines_are_read s w
 
 -- ---- and nothing else is
 

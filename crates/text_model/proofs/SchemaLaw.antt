@@ -9,7 +9,7 @@ use Rattle.schema_model.specs.Reading.{◌>>=◌}
 use Rattle.schema_model.specs.declared.class.Class.{Class}
 use Rattle.text_model.specs.Marks.{is_class_name, lines, spaced}
 use Rattle.text_model.specs.Lines.{words_of, pieces_of}
-use Rattle.text_model.proofs.Spaced.{is_line, all_pass, all_append, front_of, last_of, front_of_push, last_of_push, pieces_of-lines, words_of-lines, text_of_lines}
+use Rattle.text_model.proofs.Spaced.{is_line, all_pass, all_append, prefix_of, last_of, prefix_of_push, last_of_push, pieces_of-lines, words_of-lines, text_of_lines}
 use Rattle.text_model.specs.declared.fault.SchemaFault.{SchemaFault}
 use Rattle.text_model.specs.declared.draft.DraftRoot.{DraftRoot}
 use Rattle.text_model.specs.SchemaLines.{RootLine, is_spelled, line_words, class_name, lines_of, IsSchemaText}
@@ -64,7 +64,7 @@ lines_are_schema ls n piece s h =
 pub read_is_schema : (text : List ℕ) (s : Schema) → read_schema_text text ≡ Ok s → IsSchemaText text s
 read_is_schema text s h =
     let ps = pieces_of text in
-    let is = lines_are_schema (map words_of (front_of ps)) (length ps - 1) (last_of ps) s h in
+    let is = lines_are_schema (map words_of (prefix_of ps)) (length ps - 1) (last_of ps) s h in
     (is.1, text_of_lines text is.0 ∙ ap lines is.2)
 
 -- ---- the text of a schema is read as it
@@ -145,7 +145,7 @@ schema_is_read text s h =
     let plain = schema_lines_plain s h.0 in
     let ps = map spaced ls ++ [] ∷ [] in
     let n = length ps - 1 in
-    let words : map words_of (front_of ps) ≡ ls = ap (map words_of) (front_of_push (map spaced ls) []) ∙ words_of-lines ls plain in
+    let words : map words_of (prefix_of ps) ≡ ls = ap (map words_of) (prefix_of_push (map spaced ls) []) ∙ words_of-lines ls plain in
     ap (λ t. read_pieces (pieces_of t)) h.1
     ∙ (ap read_pieces (pieces_of-lines ls plain)
     ∙ (ap (λ l. lines_taken 1 empty_draft l >>= ended n (last_of ps)) words

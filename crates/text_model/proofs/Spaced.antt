@@ -123,15 +123,15 @@ words_of-lines (ws ∷ ls) h =
 -- ---- a text of its pieces
 
 -- the pieces but the last
-abbrev pub front_of : {A : Type 0} → List A → List A
-front_of ps = take (length ps - 1) ps
+abbrev pub prefix_of : {A : Type 0} → List A → List A
+prefix_of ps = take (length ps - 1) ps
 
 -- the last piece
 abbrev pub last_of : {A : Type 0} → List (List A) → List A
 last_of ps = get_or ps (length ps - 1) []
 
-pub front_of_push : {A : Type 0} (ps : List A) (p : A) → front_of (ps ++ p ∷ []) ≡ ps
-front_of_push ps p = take_at ps (p ∷ []) (length (ps ++ p ∷ []) - 1) (omega (arith, length_push ps p))
+pub prefix_of_push : {A : Type 0} (ps : List A) (p : A) → prefix_of (ps ++ p ∷ []) ≡ ps
+prefix_of_push ps p = take_at ps (p ∷ []) (length (ps ++ p ∷ []) - 1) (omega (arith, length_push ps p))
 
 pub last_of_push : {A : Type 0} (ps : List (List A)) (p : List A) → last_of (ps ++ p ∷ []) ≡ p
 last_of_push ps p = get_or_at ps p [] [] (length (ps ++ p ∷ []) - 1) (omega (arith, length_push ps p))
@@ -142,7 +142,7 @@ joined p (q ∷ ps) =
     ap (λ l. p ++ 10 ∷ l) (joined q ps)
     ∙ (sym (append_assoc p (10 ∷ []) _) ∙ sym (append_assoc (p ++ 10 ∷ []) (flat_map (λ l. l ++ 10 ∷ []) (take (length ps) (q ∷ ps))) (get_or (q ∷ ps) (length ps) [])))
 
-joined_any : (ps : List (List ℕ)) → 0 < length ps → join_with_byte 10 ps ≡ flat_map (λ l. l ++ 10 ∷ []) (front_of ps) ++ last_of ps
+joined_any : (ps : List (List ℕ)) → 0 < length ps → join_with_byte 10 ps ≡ flat_map (λ l. l ++ 10 ∷ []) (prefix_of ps) ++ last_of ps
 joined_any [] h = absurd (omega arith)
 joined_any (p ∷ ps) h =
     let n : length (p ∷ ps) - 1 ≡ length ps = omega arith in
@@ -153,8 +153,8 @@ lines_of_words [] = refl
 lines_of_words (p ∷ ps) = ap₂ (λ a b. (a ++ 10 ∷ []) ++ b) (sym (spaced-words_of p)) (lines_of_words ps)
 
 -- a text whose last piece is empty is the lines of the words of its other pieces
-pub text_of_lines : (text : List ℕ) → last_of (pieces_of text) ≡ [] → text ≡ lines (map words_of (front_of (pieces_of text)))
+pub text_of_lines : (text : List ℕ) → last_of (pieces_of text) ≡ [] → text ≡ lines (map words_of (prefix_of (pieces_of text)))
 text_of_lines text e =
     sym (join_with_byte-slice_split 10 text)
     ∙ (joined_any (pieces_of text) (omega (arith, length-slice_split (λ b. eqb b 10) text))
-    ∙ (ap₂ (λ a b. a ++ b) (lines_of_words (front_of (pieces_of text))) e ∙ append-nil (lines (map words_of (front_of (pieces_of text))))))
+    ∙ (ap₂ (λ a b. a ++ b) (lines_of_words (prefix_of (pieces_of text))) e ∙ append-nil (lines (map words_of (prefix_of (pieces_of text))))))

@@ -2,7 +2,7 @@
 use Rattle.std.specs.Prelude.{ℕ, ◌+◌, ◌/◌, ◌%◌, Bool, not, ◌&&◌, List, [], ◌∷◌, ◌++◌, length, map, nat_lt, nat_le, ◌==◌, if◌then◌else◌, codes}
 use Rattle.std.specs.List.{flat_map, list_all, list_any}
 use Rattle.std.specs.Str.{bytes_eq}
-pub use Rattle.hub_model.specs.Ids.{is_name_byte, is_id_byte, is_id}
+pub use Rattle.schema_model.specs.Ids.{is_name_byte, is_id_byte, is_id}
 use Rattle.schema_model.specs.declared.scalar.ScalarKind.{ScalarKind}
 use Rattle.schema_model.specs.declared.scalar.ScalarKind.TheVariants as kind
 

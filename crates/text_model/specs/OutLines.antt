@@ -27,7 +27,7 @@ use Rattle.text_model.specs.WordForms.{are_bytes, hex_of, id_of, is_text, kind_o
 abbrev pub is_one_line : List ℕ → Bool
 is_one_line t = is_text t && list_all (λ b. not (b == 10)) t
 
--- the refusals that come out; want of memory is none
+-- the refusals that come out; out of memory is none
 abbrev pub table_refusals : List TableFault
 table_refusals =
     fault.NoRef ∷ fault.NoField ∷ fault.NoItem ∷ fault.WrongType ∷ fault.OutOfRange ∷ fault.Cycle ∷ fault.Duplicate ∷ fault.InstancesFull

@@ -51,7 +51,7 @@ shifted : {X : Type 0} (xs : List X) (x : X) (ys : List X) → (xs ++ x ∷ []) 
 shifted [] x ys = refl
 shifted (z ∷ xs) x ys = ap (λ l. z ∷ l) (shifted xs x ys)
 
--- the last of what is left goes in front of what was moved
+-- the last of what is left goes before what was moved
 pub moved : {X : Type 0} (key : X → ℕ) (all left rest : List X) (x : X) (done : List X) → RisesFrom key 0 all → all ≡ left ++ done → left ≡ rest ++ x ∷ [] →
     all ≡ rest ++ put key x done
 moved key all left rest x done r h p =
@@ -62,9 +62,9 @@ at_least : {X : Type 0} (key : X → ℕ) (low : ℕ) (xs : List X) (x : X) (ys 
 at_least key low [] x ys r = r.0
 at_least key low (z ∷ xs) x ys r = omega (arith, r.0, at_least key (suc (key z)) xs x ys r.1)
 
-above_front : {X : Type 0} (key : X → ℕ) (low : ℕ) (xs : List X) (x : X) (ys : List X) → RisesFrom key low (xs ++ x ∷ ys) → IsAbove key (key x) xs
-above_front key low [] x ys r = tt
-above_front key low (z ∷ xs) x ys r = (at_least key (suc (key z)) xs x ys r.1, above_front key (suc (key z)) xs x ys r.1)
+above_prefix : {X : Type 0} (key : X → ℕ) (low : ℕ) (xs : List X) (x : X) (ys : List X) → RisesFrom key low (xs ++ x ∷ ys) → IsAbove key (key x) xs
+above_prefix key low [] x ys r = tt
+above_prefix key low (z ∷ xs) x ys r = (at_least key (suc (key z)) xs x ys r.1, above_prefix key (suc (key z)) xs x ys r.1)
 
 -- what is left without the first entry
 pub first_out : {X : Type 0} (key : X → ℕ) (es : List (ℕ × X)) (p : ℕ × X) (rest : List (ℕ × X)) → es ≡ p ∷ rest → IsKeyed key es →
@@ -79,7 +79,7 @@ pub next_above : {X : Type 0} (key : X → ℕ) (all out left : List X) (x : X) 
     left ≡ x ∷ rest → IsAbove key (key x) out
 next_above key all out left x rest r h p =
     let whole : all ≡ out ++ x ∷ rest = h ∙ ap (λ l. out ++ l) p in
-    above_front key 0 out x rest (rw whole at r)
+    above_prefix key 0 out x rest (rw whole at r)
 
 -- an item has a number where one is found under it
 pub any_found : {X : Type 0} (key : X → ℕ) (k : ℕ) (es : List X) → list_any (λ e. key e == k) es ≡ is_some (find key k es)

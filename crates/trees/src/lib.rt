@@ -1,11 +1,11 @@
 //! Items under their own numbers, and texts that lead to numbers, found in logarithmic time.
 #![tactic(auto)]
 
-pub mod holes;
-pub mod numbered;
+mod holes;
+mod numbered;
 pub mod slot;
 pub mod text_index;
-pub mod tree;
+mod tree;
 
 pub use holes::{close_holes, drop_last_holes};
 pub use numbered::Numbered;

@@ -62,7 +62,7 @@ impl<T: Keyed> Numbered<T> {
         found(self.slots.as_slice(), number)
     }
 
-    /// The first item, or the first behind a number. It passes over the holes in front of it.
+    /// The first item, or the first behind a number. It passes over the holes before it.
     pub fn after(&self, number: Option<u32>) -> Option<&T>
         ensures value { option_copied result ≡ slice_get (after_key T.key number self.now) 0 }
         ensures rises { RisesFrom T.key 0 self.now }
@@ -70,7 +70,7 @@ impl<T: Keyed> Numbered<T> {
         item_after(self.slots.as_slice(), number)
     }
 
-    /// The number of the item at a place. It passes over all items and holes in front of it.
+    /// The number of the item at a place. It passes over all items and holes before it.
     pub fn number_at(&self, place: usize) -> Option<u32>
         ensures number { result ≡ slice_get (map T.key self.now) place }
         ensures rises { RisesFrom T.key 0 self.now }

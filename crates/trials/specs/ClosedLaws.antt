@@ -1,6 +1,6 @@
 -- Rooms that let nobody in keep the laws of rooms.
-use Rattle.std.proofs.Common.{◌≡◌, ◌≤◌, ◌&&◌, ◌∙◌, ℕ, true, false, List, [], not, Option, Some, None, refl, sym, ap, inl, zero-le}
-use Rattle.std.specs.List.{find, list_any}
+use Rattle.std.proofs.Common.{◌≡◌, ◌≤◌, ◌&&◌, ◌∙◌, ℕ, true, false, List, [], Some, None, refl, sym, ap, inl, zero-le}
+use Rattle.std.specs.List.{find}
 use Rattle.std.specs.Option.{option_map, option_map_or}
 use Rattle.std.proofs.lemmas.Bool.{and_parts}
 use Rattle.schema_model.specs.Classes.{Schema}
@@ -9,15 +9,16 @@ use Rattle.room_model.specs.declared.event.RoomEvent.{RoomEvent}
 use Rattle.room_model.specs.declared.event.RoomEvent.TheVariants as event
 use Rattle.room_model.specs.declared.seat.SeatEntry.{SeatEntry}
 use Rattle.room_model.specs.Ledger.{is_kept_by, kept_by}
-use Rattle.room_model.specs.Outs.{is_end, opens, loses}
+use Rattle.room_model.specs.Outs.{opens, loses}
 use Rattle.room_model.specs.Seats.{in_use}
 use Rattle.room_model.specs.Sessions.{Session, session_of, is_connected}
 use Rattle.room_model.specs.Room.{RoomValue, new_room}
 use Rattle.room_laws.specs.Names.{AreKeptNamed, KeepsNames}
 use Rattle.room_laws.specs.Placed.{stands}
 use Rattle.room_laws.specs.Places.{is_connected_in, is_moment, may_happen}
+use Rattle.room_laws.specs.Quiet.{KeepsPlaces}
 use Rattle.room_laws.specs.StepLaws.{StepLaws, connected}
-use Rattle.trials.specs.ClosedRooms.{IsEmpty, closed_outs, closed_step}
+use Rattle.trials.specs.ClosedRooms.{IsEmpty, closed_step}
 
 pub begins : (schema : Schema) (def : RoomDef) (criteria : List (List ℕ)) → IsEmpty (new_room schema def criteria)
 begins schema def criteria = record { entries = refl; sessions = refl }
@@ -66,6 +67,9 @@ pub keepers : (r : RoomValue) → IsEmpty r → AreKeptNamed r
 keepers r o token id is =
     let none : kept_by r.seats token ≡ None = ap (λ es. option_map (λ (e : SeatEntry). e.session) (find (λ (e : SeatEntry). is_kept_by token e.seat) es)) o.entries in
     absurd cc
+
+pub quiet : (r : RoomValue) (e : RoomEvent) → IsEmpty r → may_happen r e ≡ true → KeepsPlaces r e (closed_step r e)
+quiet r e o may still ends = refl
 
 pub within : (r : RoomValue) → IsEmpty r → in_use r.seats ≤ r.seats.max
 within r o = rw (o.entries) zero-le

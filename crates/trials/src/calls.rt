@@ -1,11 +1,14 @@
-//! Scalars by their spellings, and operations read one at a time.
+//! Scalars by their spellings, operations read one at a time, frames of clients, and words of schedules.
 use crate::script::{schema_of, value_of};
 use crate::table::rows_after;
 use canon_patch::apply::tree_of;
+use client_frames::write_client;
+use frame_model::{ClientFrame, MsgKind};
 use op_reader::{OpFault, is_holder, read_op};
 use scalar_codec::{get_scalar, put_scalar};
+use schedule_text::{write_plain, write_quoted, write_value};
 use schema_model::ScalarKind::{self, Bool, I8, I16, I32, Number, Str, U8, U16, U32};
-use schema_model::{ReadFault, RefNum, Value};
+use schema_model::{Bytes, ReadFault, RefNum, Value};
 use std::alloc::Global;
 use std::test::Fail;
 
@@ -64,11 +67,11 @@ fn spelled(alloc: Global, kind: ScalarKind, value: &Value) -> Result<Vec<u8>, Fa
 
 #[test]
 fn scalars_are_spelled_and_read(rt: HostRuntime) -> Result<(), Fail> {
-    for (kind, word, wanted) in SPELLED {
+    for (kind, word, expected) in SPELLED {
         let value = value_of(rt.alloc(), word)?;
         let found = hex::encode(rt.alloc(), spelled(rt.alloc(), kind, &value)?.as_slice())?;
         let found = found.as_str().strip_prefix("c0").unwrap_or("");
-        assert!(rt; found.starts_with(wanted), "{word}");
+        assert!(rt; found.starts_with(expected), "{word}");
     }
     Ok(())
 }
@@ -101,13 +104,60 @@ fn a_step_is_read_on_its_holder(rt: HostRuntime) -> Result<(), Fail> {
     let schema = schema_of(rt.alloc(), DECK)?;
     let rows = rows_after(rt.alloc(), &schema, "makefor 0 1; makefor 0 2; make 1")?;
     let known = tree_of(rt.alloc(), &rows)?;
-    for (holder, bytes, wanted) in STEPS {
+    for (holder, bytes, expected) in STEPS {
         let holder = RefNum(holder);
         if bytes.is_empty() || !is_holder(&schema, &known, holder) {
             return Err(Fail::new("no holder"));
         }
         let found = read_op(rt.alloc(), &schema, &known, holder, bytes, 0).map(|step| step.1);
-        assert_eq!(rt; found, wanted, "{holder:?} {bytes:?}");
+        assert_eq!(rt; found, expected, "{holder:?} {bytes:?}");
     }
+    Ok(())
+}
+
+// ---- frames of clients
+
+#[test]
+fn clients_write_their_frames(rt: HostRuntime) -> Result<(), Fail> {
+    let alloc = rt.alloc();
+    let mut out = Vec::new(alloc);
+    write_client(&mut out, &ClientFrame::Ack)?;
+    write_client(&mut out, &ClientFrame::Leave)?;
+    let payload = Bytes::from_slice(alloc, &[0xff])?;
+    write_client(&mut out, &ClientFrame::Raw(MsgKind::Num(3), payload))?;
+    assert_eq!(rt; out.as_slice(), [0x0a, 0x0c, 0x11, 0x03, 0xff].as_slice());
+    Ok(())
+}
+
+// ---- words of schedules
+
+const WORDS: [(&str, &str); 7] = [
+    ("-5", "-5"),
+    ("true", "true"),
+    ("false", "false"),
+    ("#7", "#7"),
+    ("'", "'"),
+    ("'a b%", "'a%20b%25"),
+    ("'é", "'%C3%A9"),
+];
+
+#[test]
+fn values_have_their_words(rt: HostRuntime) -> Result<(), Fail> {
+    for (value, word) in WORDS {
+        let mut out = Vec::new(rt.alloc());
+        write_value(&mut out, &value_of(rt.alloc(), value)?)?;
+        assert_eq!(rt; out.as_slice(), word.as_bytes(), "{word}");
+    }
+    Ok(())
+}
+
+#[test]
+fn texts_have_their_words(rt: HostRuntime) -> Result<(), Fail> {
+    let mut out = Vec::new(rt.alloc());
+    write_quoted(&mut out, "a b")?;
+    write_plain(&mut out, b"/a b")?;
+    write_plain(&mut out, b"")?;
+    write_plain(&mut out, b"-")?;
+    assert_eq!(rt; out.as_slice(), b"'a%20b/a%20b-%2D".as_slice());
     Ok(())
 }

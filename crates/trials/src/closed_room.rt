@@ -23,13 +23,13 @@ pub struct ClosedRoom {
 impl RoomLike for ClosedRoom {
     ghost use Rattle.room_model.specs.Room.{new_room};
     ghost use Rattle.trials.specs.ClosedRooms.{IsEmpty, closed_step};
-    ghost use Rattle.trials.specs.ClosedLaws.{begins, goes_on, tells, seats, names, keepers, within};
+    ghost use Rattle.trials.specs.ClosedLaws.{begins, goes_on, tells, seats, names, keepers, quiet, within};
 
     ghost room = { λ c. new_room c.schema c.def c.criteria };
 
     ghost is_spent = { λ c. c.spent };
 
-    ghost happens = { closed_step };
+    ghost handled = { closed_step };
 
     ghost costs = { λ c e. 0 };
 
@@ -46,6 +46,8 @@ impl RoomLike for ClosedRoom {
     ghost names = { names };
 
     ghost keepers = { keepers };
+
+    ghost quiet = { quiet };
 
     ghost within = { within };
 

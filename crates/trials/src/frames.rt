@@ -42,9 +42,9 @@ fn check_all(
     decoder: &mut Decoder,
     lines: &[(&str, &str)],
 ) -> Result<(), Fail> {
-    for (frame, wanted) in lines {
+    for (frame, expected) in lines {
         let found = answer(alloc, decoder, frame)?;
-        assert_eq!(rt; found.as_str(), *wanted, "{frame}");
+        assert_eq!(rt; found.as_str(), *expected, "{frame}");
     }
     Ok(())
 }
@@ -81,7 +81,7 @@ const LISTS: &str = "class State\nfield list array number\nfield tags set string
 const POSITIONS: &str = "
 full 8001ff010a800001800102800203 = 0(0=#1 )1(1 2 3 )
 patch ff010000020001034002 = 0(0=#1 )1(2 3 )
-// A number in front; a hole that closes behind the operations, and one that closes at a switch.
+// A number at the first place; a hole that closes behind the operations, and one that closes at a switch.
 patch ff01800005 = 0(0=#1 )1(5 2 3 )
 patch ff014000800109 = 0(0=#1 )1(9 3 )
 patch ff014000ff00ff01800109 = 0(0=#1 )1(3 9 )
@@ -195,12 +195,12 @@ fn first_answer(alloc: Global, state: &[u8]) -> Result<Result<(), OpFault>, Fail
 #[test]
 fn a_frame_is_cut_off_at_each_length(rt: HostRuntime) -> Result<(), Fail> {
     for length in 0..=PLAYER.len() {
-        let wanted = match length {
+        let expected = match length {
             0 | 2 | 4 | 10 | 12 | 14 | 17 => Ok(()),
             _ => Err(OpFault::Scalar(Short(length))),
         };
         let found = first_answer(rt.alloc(), &PLAYER[..length])?;
-        assert_eq!(rt; found, wanted, "{length}");
+        assert_eq!(rt; found, expected, "{length}");
     }
     Ok(())
 }

@@ -197,11 +197,11 @@ fn check_view(
     client: &Client,
 ) -> Result<(), Fail> {
     let pairs = client.members.pairs()?;
-    let wanted = permitted(alloc, live.schema(), &live.rows()?, pairs.as_slice())?;
+    let expected = permitted(alloc, live.schema(), &live.rows()?, pairs.as_slice())?;
     let seen = client.decoder.rows()?;
     assert_eq!(rt;
         format!(in alloc; "{seen:?}")?,
-        format!(in alloc; "{wanted:?}")?
+        format!(in alloc; "{expected:?}")?
     );
     Ok(())
 }

@@ -118,9 +118,9 @@ const LINKS: &str =
 fn rows_are_reached_and_freed(rt: HostRuntime) -> Result<(), Fail> {
     let alloc = rt.alloc();
     let rows = rows_after(alloc, &schema_of(alloc, NODES)?, LINKS)?;
-    for (from, wanted) in [(0, "0 2 3"), (1, "1 3 4"), (3, "3"), (9, "9")] {
+    for (from, expected) in [(0, "0 2 3"), (1, "1 3 4"), (3, "3"), (9, "9")] {
         let found = reached(alloc, &rows, RefNum(from))?;
-        assert_eq!(rt; told_numbers(alloc, &found)?.as_str(), wanted);
+        assert_eq!(rt; told_numbers(alloc, &found)?.as_str(), expected);
     }
     let left = freed(alloc, &rows)?;
     assert_eq!(rt; told(alloc, &left)?.as_str(), "0(0=#2 )2(0=#3 )3()");
@@ -155,14 +155,14 @@ const VIEWS: [(&[(u32, i16)], &str); 8] = [
 fn members_see_what_they_may(rt: HostRuntime) -> Result<(), Fail> {
     let schema = schema_of(rt.alloc(), BOARD)?;
     let rows = rows_after(rt.alloc(), &schema, WHOLE)?;
-    for (members, wanted) in VIEWS {
+    for (members, expected) in VIEWS {
         let mut pairs = Vec::new(rt.alloc());
         for (who, tag) in members {
             let (who, tag) = (RefNum(*who), Tag(*tag));
             pairs.push(Pair { who, tag })?;
         }
         let view = permitted(rt.alloc(), &schema, &rows, pairs.as_slice())?;
-        assert_eq!(rt; told(rt.alloc(), &view)?.as_str(), wanted);
+        assert_eq!(rt; told(rt.alloc(), &view)?.as_str(), expected);
     }
     Ok(())
 }

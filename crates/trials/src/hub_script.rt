@@ -1,134 +1,38 @@
-//! What comes to a hub and what it gives, as text. Its lines of outputs are those of a replay.
+//! A schedule under test: the lines of its events, and the lines of what a hub gives at them.
 ghost use Rattle.std.specs.Prelude.{◌≡◌, ◌<◌};
 
-use crate::script::{add_answer, lines_of, schema_of};
-use crate::turns::{bytes_of, event_of as room_event_of, id_of, moment_of};
-use hub_core::{Hub, HubEvent, HubOut, are_hub_defs};
-use lists::{Seq, Text};
-use matchmaker::is_id;
+use crate::script::{add_answer, lines_of};
+use hub_core::{Hub, HubEvent, HubOut, HubOuts, are_hub_defs};
 use room_like::RoomLike;
-use room_model::{Act, Defs, RoomDef, RoomEvent, Texts};
-use schedule_text::print_out;
-use schema_model::{Bytes, ConnNum};
+use schedule_text::{print_out, read_event, read_schedule};
+use schema_model::is_id;
 use std::alloc::Global;
 use std::marker::Brand;
 use std::process::Abort;
 use std::sync::ledger::{Blank, Ledger};
 use std::test::Fail;
 use steps::Steps;
+use text_model::Schedule;
 
-const STATE: &str = "class State\nfield gold number\nroot State\n";
-
-// ---- definitions
-
-// A definition whose reservations last 15 seconds.
-fn definition(alloc: Global, name: &str, max: u32, keep: u64, key: &str) -> Result<RoomDef, Fail> {
-    let mut filter: Texts = Seq::new(alloc);
-    if !key.is_empty() {
-        filter.push(Text::from_text(alloc, key)?)?;
-    }
-    Ok(RoomDef {
-        name: Text::from_text(alloc, name)?,
-        max,
-        seat: 15_000,
-        patch: 50,
-        keep,
-        filter,
-    })
-}
-
-// Rooms of two places and of one, whose seats are kept for 20 seconds, and rooms of two that are found by their mode and
-// keep none.
-fn definitions(alloc: Global) -> Result<Defs, Fail> {
-    let mut defs = Seq::new(alloc);
-    defs.push(definition(alloc, "duel", 2, 20_000, "")?)?;
-    defs.push(definition(alloc, "solo", 1, 20_000, "")?)?;
-    defs.push(definition(alloc, "team", 2, 0, "mode")?)?;
-    Ok(defs)
-}
+// Answers longer than this, in bytes, are told by their first word and how long they are. No heading is longer.
+const LONG: usize = 1024;
 
 // ---- events
 
-fn conn_of(word: &str) -> Result<ConnNum, Fail> {
-    Ok(ConnNum(word.parse::<u64>()?))
-}
-
-// An act on a room: `act room00001 put 0 0 5`.
-fn act_of(alloc: Global, text: &str) -> Result<HubEvent, Fail> {
-    let Some((room, act)) = text.split_once(' ') else {
-        return Err(Fail::new("no act"));
+// A text in which `(x*3)` stands for what is before the star, so many times.
+fn unfolded(alloc: Global, text: &str) -> Result<String, Fail> {
+    let Some((before, rest)) = text.split_once('(') else {
+        return Ok(String::from_str(alloc, text)?);
     };
-    let room = id_of(room)?;
-    match room_event_of(alloc, act)? {
-        RoomEvent::Act(act) => Ok(HubEvent::Act { room, act }),
-        _ => Err(Fail::new("no act")),
-    }
-}
-
-// An event of one word: `at 100`, `tick room00001`, `bad 1`, `lost 2`.
-fn event_with(verb: &str, word: &str) -> Result<HubEvent, Fail> {
-    match verb {
-        "at" => Ok(HubEvent::At(moment_of(word)?)),
-        "tick" => Ok(HubEvent::Tick { room: id_of(word)? }),
-        "bad" => Ok(HubEvent::Bad {
-            conn: conn_of(word)?,
-        }),
-        "lost" => Ok(HubEvent::Lost {
-            conn: conn_of(word)?,
-        }),
-        _ => Err(Fail::new("no event")),
-    }
-}
-
-// `frame 2 0a`.
-fn frame_of(alloc: Global, conn: &str, hex: &str) -> Result<HubEvent, Fail> {
-    Ok(HubEvent::Frame {
-        conn: conn_of(conn)?,
-        bytes: bytes_of(alloc, hex)?,
-    })
-}
-
-// `open 2 TARGET TOKEN`.
-fn opening_of(alloc: Global, conn: &str, target: &str, fresh: &str) -> Result<HubEvent, Fail> {
-    Ok(HubEvent::Opening {
-        conn: conn_of(conn)?,
-        target: Text::from_text(alloc, target)?,
-        fresh: id_of(fresh)?,
-    })
-}
-
-// `ask 1 TARGET BODY ROOM SESSION`; the target is told behind `/matchmake/`.
-fn request_of(
-    alloc: Global,
-    conn: &str,
-    target: &str,
-    body: &str,
-    drawn: (&str, &str),
-) -> Result<HubEvent, Fail> {
-    let target = format!(in alloc; "/matchmake/{target}")?;
-    Ok(HubEvent::Ask {
-        conn: conn_of(conn)?,
-        target: Text::from_string(target),
-        body: Bytes::from_slice(alloc, body.as_bytes())?,
-        room: id_of(drawn.0)?,
-        session: id_of(drawn.1)?,
-    })
+    let (folded, behind) = rest.split_once(')').ok_or("no end of what repeats")?;
+    let (unit, times) = folded.split_once('*').ok_or("no number of times")?;
+    let unit = unit.repeat(alloc, times.parse::<usize>()?)?;
+    Ok(format!(in alloc; "{before}{unit}{behind}")?)
 }
 
 fn event_of(alloc: Global, text: &str) -> Result<HubEvent, Fail> {
-    if let Some(act) = text.strip_prefix("act ") {
-        return act_of(alloc, act);
-    }
-    let words: Vec<&str> = text.split(' ').collect(alloc)?;
-    match *words.as_slice() {
-        [verb, word] => event_with(verb, word),
-        [_, conn, hex] => frame_of(alloc, conn, hex),
-        [_, conn, target, fresh] => opening_of(alloc, conn, target, fresh),
-        [_, conn, target, body, room, session] => {
-            request_of(alloc, conn, target, body, (room, session))
-        }
-        _ => Err(Fail::new("no event")),
-    }
+    let line = unfolded(alloc, text)?;
+    Ok(read_event(alloc, line.as_bytes())?)
 }
 
 // ---- what is given
@@ -145,30 +49,36 @@ fn told_out(alloc: Global, out: &HubOut) -> Result<String, Fail> {
 }
 
 // Adds the lines of outputs to the answers.
-fn tell(alloc: Global, outs: &[HubOut], answers: &mut String) -> Result<(), Fail> {
-    for out in outs {
+fn tell(alloc: Global, outs: &HubOuts, answers: &mut String) -> Result<(), Fail> {
+    for out in outs.as_slice() {
         add_answer(answers, &told_out(alloc, out)?)?;
     }
     Ok(())
 }
 
-// Adds what the hub gives at an event, or that it doesn't take it.
-fn answer<R: RoomLike, L: Ledger>(
-    alloc: Global,
+// Adds the lines of refusals to the answers.
+fn tell_refusals(alloc: Global, outs: &HubOuts, answers: &mut String) -> Result<(), Fail> {
+    for out in outs.as_slice() {
+        if matches!(out, HubOut::Refused(_)) {
+            add_answer(answers, &told_out(alloc, out)?)?;
+        }
+    }
+    Ok(())
+}
+
+// What the hub gives at an event.
+fn give<R: RoomLike, L: Ledger>(
     hub: &mut Hub<R>,
     event: &HubEvent,
     steps: &mut Steps<L>,
-    answers: &mut String,
-) -> Result<(), Fail> {
+) -> Result<HubOuts, Fail> {
     if !hub.takes(event) {
-        add_answer(answers, "not taken")?;
-        return Ok(());
+        return Err(Fail::new("the hub doesn't take it"));
     }
-    let outs = hub.step(event, steps)?;
-    tell(alloc, outs.as_slice(), answers)
+    Ok(hub.step(event, steps)?)
 }
 
-// What the hub gives at a line.
+// What a hub gives at events.
 fn given<R: RoomLike, L: Ledger>(
     alloc: Global,
     hub: &mut Hub<R>,
@@ -177,10 +87,87 @@ fn given<R: RoomLike, L: Ledger>(
 ) -> Result<String, Fail> {
     let mut answers = String::new(alloc);
     for text in line.split("; ") {
-        let event = event_of(alloc, text)?;
-        answer(alloc, hub, &event, steps, &mut answers)?;
+        let outs = give(hub, &event_of(alloc, text)?, steps)?;
+        tell(alloc, &outs, &mut answers)?;
     }
     Ok(answers)
+}
+
+// The refusals that a hub gives at an event that comes so many times.
+fn refused_in_turn<R: RoomLike, L: Ledger>(
+    alloc: Global,
+    hub: &mut Hub<R>,
+    (first, last): (u32, u32),
+    text: &str,
+    steps: &mut Steps<L>,
+) -> Result<String, Fail> {
+    let mut answers = String::new(alloc);
+    let event = event_of(alloc, text)?;
+    for _ in first..=last {
+        let outs = give(hub, &event, steps)?;
+        tell_refusals(alloc, &outs, &mut answers)?;
+    }
+    Ok(answers)
+}
+
+// Adds the refusals that a hub gives at events.
+fn add_refusals<R: RoomLike, L: Ledger>(
+    alloc: Global,
+    hub: &mut Hub<R>,
+    line: &str,
+    steps: &mut Steps<L>,
+    answers: &mut String,
+) -> Result<(), Fail> {
+    for text in line.split("; ") {
+        let outs = give(hub, &event_of(alloc, text)?, steps)?;
+        tell_refusals(alloc, &outs, answers)?;
+    }
+    Ok(())
+}
+
+// The refusals that a hub gives at events that come for each number, which stands in the place of `$`.
+fn refused_by_number<R: RoomLike, L: Ledger>(
+    alloc: Global,
+    hub: &mut Hub<R>,
+    (first, last): (u32, u32),
+    line: &str,
+    steps: &mut Steps<L>,
+) -> Result<String, Fail> {
+    let mut answers = String::new(alloc);
+    for number in first..=last {
+        let number = format!(in alloc; "{number}")?;
+        let line = line.replace(alloc, '$', &number)?;
+        add_refusals(alloc, hub, &line, steps, &mut answers)?;
+    }
+    Ok(answers)
+}
+
+// What a hub gives at a line: events; or, with `1 to 64: ` before them, an event that comes so often, or events with `$` that
+// come for each of these numbers.
+fn answer<R: RoomLike, L: Ledger>(
+    alloc: Global,
+    hub: &mut Hub<R>,
+    line: &str,
+    steps: &mut Steps<L>,
+) -> Result<String, Fail> {
+    let Some((numbers, text)) = line.split_once(": ") else {
+        return given(alloc, hub, line, steps);
+    };
+    let (first, last) = numbers.split_once(" to ").ok_or("no numbers")?;
+    let numbers = (first.parse::<u32>()?, last.parse::<u32>()?);
+    if text.contains('$') {
+        return refused_by_number(alloc, hub, numbers, text, steps);
+    }
+    refused_in_turn(alloc, hub, numbers, text, steps)
+}
+
+// An answer as scripts have it.
+fn shortened(alloc: Global, answer: String) -> Result<String, Fail> {
+    if answer.len() <= LONG {
+        return Ok(answer);
+    }
+    let (word, _) = answer.split_once(' ').ok_or("one long word")?;
+    Ok(format!(in alloc; "{word}.. {} bytes", answer.len())?)
 }
 
 fn play_all<R: RoomLike, L: Ledger>(
@@ -189,32 +176,47 @@ fn play_all<R: RoomLike, L: Ledger>(
     hub: &mut Hub<R>,
     lines: &[(&str, &str)],
     blank: Blank,
-) -> Result<(), Fail>
+) -> Result<String, Fail>
     requires name { blank.name ≡ L.name }
     requires parts { blank.parts ≡ L.parts }
     requires some { 0 < blank.parts }
 {
     let mut steps = Steps::<L>::new(blank);
-    for (line, wanted) in lines {
-        let found = given(alloc, hub, line, &mut steps)?;
-        assert_eq!(rt; found.as_str(), *wanted, "{line}");
+    let mut answers = String::new(alloc);
+    for (line, expected) in lines {
+        let found = shortened(alloc, answer(alloc, hub, line, &mut steps)?)?;
+        assert_eq!(rt; found.as_str(), *expected, "{line}");
+        add_answer(&mut answers, &found)?;
     }
-    Ok(())
+    Ok(answers)
 }
 
-// A hub of these rooms before its events.
-fn new_hub<R: RoomLike>(alloc: Global) -> Result<Hub<R>, Fail> {
-    let defs = definitions(alloc)?;
-    let process = id_of("proc00001")?;
+// A hub before its events, of what a schedule says before them.
+fn new_hub<R: RoomLike>(alloc: Global, heading: &str) -> Result<Hub<R>, Fail> {
+    let text = format!(in alloc; "{heading}events\nend\n")?;
+    if text.len() > LONG {
+        return Err(Fail::new("a long heading"));
+    }
+    let Schedule {
+        schema,
+        process,
+        defs,
+        events: _,
+    } = read_schedule(alloc, text.as_bytes())?;
     if !are_hub_defs(defs.as_slice()) || !is_id(process) {
         return Err(Fail::new("no hub is made of it"));
     }
-    Ok(Hub::new(alloc, schema_of(alloc, STATE)?, process, defs)?)
+    Ok(Hub::new(alloc, schema, process, defs)?)
 }
 
-/// A hub of such rooms gives what a script says.
-pub fn play<R: RoomLike>(rt: &impl Abort, alloc: Global, script: &str) -> Result<(), Fail> {
-    let mut hub = new_hub::<R>(alloc)?;
+/// Whether a hub gives what a script says; what it gave at all lines. Behind a line `1 to 64: ..` stand refusals alone.
+pub fn play<R: RoomLike>(
+    rt: &impl Abort,
+    alloc: Global,
+    heading: &str,
+    script: &str,
+) -> Result<String, Fail> {
+    let mut hub = new_hub::<R>(alloc, heading)?;
     let lines = lines_of(alloc, script)?;
     play_all::<R, Brand>(rt, alloc, &mut hub, &lines, Blank::new(1))
 }

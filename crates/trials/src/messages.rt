@@ -1,19 +1,7 @@
 //! Messages: the frames of clients, and what the owner of a room tells them.
-ghost use Rattle.std.specs.Prelude.{◌≡◌, ◌<◌};
-
-use crate::game::Game;
-use crate::script::schema_of;
-use crate::turns::{coming, id, play};
+use crate::turns::play;
 use client_frames::{FrameFault, read_client};
-use frame_model::MsgKind;
-use room_core::{Act, Refusal, RoomEvent, RoomOut, Stage};
-use schema_model::{Bytes, Id, Memory};
-use std::alloc::Global;
-use std::marker::Brand;
-use std::process::Abort;
-use std::sync::ledger::{Blank, Ledger};
 use std::test::Fail;
-use steps::Steps;
 
 const STATE: &str = "class State\nfield gold number\nroot State\n";
 
@@ -72,84 +60,6 @@ fn messages_wait_for_the_full_state(rt: HostRuntime) -> Result<(), Fail> {
     play(&rt, rt.alloc(), STATE, MESSAGES)
 }
 
-// ---- as many as wait
-
-// A message of a number, whose payload is the number too.
-fn numbered(alloc: Global, session: Id, number: u8) -> Result<RoomEvent, Memory> {
-    let payload = Bytes::from_slice(alloc, &[0xcc, number])?;
-    Ok(RoomEvent::Act(Act::Send(session, MsgKind::Num(1), payload)))
-}
-
-// Whether an output is that message.
-fn is_numbered(out: &RoomOut, session: Id, number: u8) -> bool {
-    match out {
-        RoomOut::Send(to, frame) => {
-            *to == session && frame.as_slice() == [13, 1, 0xcc, number].as_slice()
-        }
-        _ => false,
-    }
-}
-
-// A message to all, of no payload.
-fn to_all(alloc: Global) -> RoomEvent {
-    RoomEvent::Act(Act::ToAll(MsgKind::Num(2), Bytes::from_vec(Vec::new(alloc))))
-}
-
-// 256 messages wait, and no more. A message to all skips the one for whom they do, and nobody else.
-fn fill<L: Ledger>(
-    rt: &impl Abort,
-    alloc: Global,
-    game: &mut Game,
-    steps: &mut Steps<L>,
-) -> Result<(), Fail> {
-    let (full, other) = (id(b'a'), id(b'b'));
-    for session in [full, other] {
-        for event in &coming(alloc, session)? {
-            game.give(rt, alloc, event, steps)?;
-        }
-    }
-    for number in 0..=u8::MAX {
-        let outs = game.give(rt, alloc, &numbered(alloc, full, number)?, steps)?;
-        assert_eq!(rt; outs.len(), 0);
-    }
-    let outs = game.give(rt, alloc, &numbered(alloc, full, 0)?, steps)?;
-    assert!(rt; matches!(outs.as_slice(), [RoomOut::Refused(Refusal::QueueFull)]));
-    let outs = game.give(rt, alloc, &to_all(alloc), steps)?;
-    assert_eq!(rt; outs.len(), 0);
-    let outs = game.give(rt, alloc, &RoomEvent::Tick, steps)?;
-    // A full state and 256 messages; a full state and one message.
-    assert_eq!(rt; outs.len(), 259);
-    for number in 0..=u8::MAX {
-        let out = &outs.as_slice()[usize::from(number) + 1];
-        assert!(rt; is_numbered(out, full, number));
-    }
-    assert_eq!(rt; game.room.stage_of(full), Some(Stage::Live));
-    let outs = game.give(rt, alloc, &to_all(alloc), steps)?;
-    assert_eq!(rt; outs.len(), 2);
-    Ok(())
-}
-
-fn fill_one<L: Ledger>(
-    rt: &impl Abort,
-    alloc: Global,
-    game: &mut Game,
-    blank: Blank,
-) -> Result<(), Fail>
-    requires name { blank.name ≡ L.name }
-    requires parts { blank.parts ≡ L.parts }
-    requires some { 0 < blank.parts }
-{
-    let mut steps = Steps::<L>::new(blank);
-    fill(rt, alloc, game, &mut steps)
-}
-
-#[test]
-fn so_many_messages_wait(rt: HostRuntime) -> Result<(), Fail> {
-    let alloc = rt.alloc();
-    let mut game = Game::new(alloc, &schema_of(alloc, STATE)?, 2)?;
-    fill_one::<Brand>(&rt, alloc, &mut game, Blank::new(1))
-}
-
 // ---- frames alone
 
 // What a frame of one byte is refused with.
@@ -167,22 +77,5 @@ fn each_frame_of_one_byte(rt: HostRuntime) -> Result<(), Fail> {
         let found = read_client(rt.alloc(), &[code]).err();
         assert_eq!(rt; found, fault_of(code));
     }
-    Ok(())
-}
-
-#[test]
-fn a_long_frame(rt: HostRuntime) -> Result<(), Fail> {
-    let mut frame = vec![in rt.alloc(); 0; 65_537]?;
-    assert_eq!(rt;
-        read_client(rt.alloc(), &frame).err(),
-        Some(FrameFault::TooLong)
-    );
-    frame.pop();
-    assert_eq!(rt;
-        read_client(rt.alloc(), &frame).err(),
-        Some(FrameFault::UnknownCode(0))
-    );
-    frame[0] = 17;
-    assert_eq!(rt; read_client(rt.alloc(), &frame).err(), None);
     Ok(())
 }

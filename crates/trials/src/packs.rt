@@ -31,9 +31,9 @@ fn answer(alloc: Global, hex: &str) -> Result<String, Fail> {
 }
 
 fn check(rt: &impl Abort, alloc: Global, script: &str) -> Result<(), Fail> {
-    for (hex, wanted) in &lines_of(alloc, script)? {
+    for (hex, expected) in &lines_of(alloc, script)? {
         let found = answer(alloc, hex)?;
-        assert_eq!(rt; found.as_str(), *wanted, "{hex}");
+        assert_eq!(rt; found.as_str(), *expected, "{hex}");
     }
     Ok(())
 }

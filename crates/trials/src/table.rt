@@ -175,9 +175,9 @@ fn check_all<L: Ledger>(
     requires some { 0 < blank.parts }
 {
     let mut steps = Steps::<L>::new(blank);
-    for (line, wanted) in lines {
+    for (line, expected) in lines {
         let found = answers(alloc, table, line, &mut steps)?;
-        assert_eq!(rt; found.as_str(), *wanted, "{line}");
+        assert_eq!(rt; found.as_str(), *expected, "{line}");
     }
     Ok(())
 }

@@ -20,8 +20,8 @@ pub fn id(letter: u8) -> Id {
     Id([letter; 9])
 }
 
-/// An id, or what can't be one: nine characters, or nine times one letter.
-pub fn id_of(word: &str) -> Result<Id, Fail> {
+// An id, or what can't be one: nine characters, or nine times one letter.
+fn id_of(word: &str) -> Result<Id, Fail> {
     match *word.as_bytes() {
         [letter] => Ok(id(letter)),
         [a, b, c, d, e, f, g, h, i] => Ok(Id([a, b, c, d, e, f, g, h, i])),
@@ -35,7 +35,7 @@ fn pair_of(word: &str) -> Result<Pair, Fail> {
     Ok(Pair { who, tag: Tag(-1) })
 }
 
-pub fn moment_of(word: &str) -> Result<u64, Fail> {
+fn moment_of(word: &str) -> Result<u64, Fail> {
     Ok(word.parse::<u64>()?)
 }
 
@@ -60,8 +60,8 @@ pub fn coming(alloc: Global, session: Id) -> Result<Vec<RoomEvent>, Memory> {
     Ok(events)
 }
 
-/// An event: one of those below, or a command.
-pub fn event_of(alloc: Global, text: &str) -> Result<RoomEvent, Fail> {
+// An event: one of those below, or a command.
+fn event_of(alloc: Global, text: &str) -> Result<RoomEvent, Fail> {
     let words: Vec<&str> = text.split(' ').collect(alloc)?;
     match event_in(alloc, &words)? {
         Some(event) => Ok(event),
@@ -142,8 +142,8 @@ fn kind_of(alloc: Global, word: &str) -> Result<MsgKind, Fail> {
     })
 }
 
-/// Bytes in hex; `-` for none.
-pub fn bytes_of(alloc: Global, word: &str) -> Result<Bytes, Fail> {
+// Bytes in hex; `-` for none.
+fn bytes_of(alloc: Global, word: &str) -> Result<Bytes, Fail> {
     let hex = if word == "-" { "" } else { word };
     match hex::decode(alloc, hex) {
         Ok(bytes) => Ok(Bytes::from_vec(bytes)),
@@ -274,9 +274,9 @@ fn play_all<L: Ledger>(
     requires some { 0 < blank.parts }
 {
     let mut steps = Steps::<L>::new(blank);
-    for (line, wanted) in lines {
+    for (line, expected) in lines {
         let found = given(rt, alloc, game, line, &mut steps)?;
-        assert_eq!(rt; found.as_str(), *wanted, "{line}");
+        assert_eq!(rt; found.as_str(), *expected, "{line}");
     }
     Ok(())
 }

@@ -100,8 +100,8 @@ wrong_bad k g (inr e) = e
 
 -- ---- the lexeme that a byte begins
 
-pub at_byte : (b : ℕ) (front : List ℕ) (ls : List Lexeme) → lex between front ≡ ls → 1 ≤ length front → get_or front 0 0 ≡ b → ls ≡ lex between (b ∷ take (length front - 1) (drop 1 front))
-at_byte b front ls same some e = sym (ap (λ y. lex between (y ∷ take (length front - 1) (drop 1 front))) (sym e) ∙ (ap (lex between) (uncons front some) ∙ same))
+pub at_byte : (b : ℕ) (prefix : List ℕ) (ls : List Lexeme) → lex between prefix ≡ ls → 1 ≤ length prefix → get_or prefix 0 0 ≡ b → ls ≡ lex between (b ∷ take (length prefix - 1) (drop 1 prefix))
+at_byte b prefix ls same some e = sym (ap (λ y. lex between (y ∷ take (length prefix - 1) (drop 1 prefix))) (sym e) ∙ (ap (lex between) (uncons prefix some) ∙ same))
 
 pub text_first : (xs : List ℕ) (ls ms : List Lexeme) (o : Option (List ℕ)) → ls ≡ lex between (34 ∷ xs) → content plain xs ≡ o → is_some o ≡ true → lex in_string xs ≡ ms → IsFirst ls Text ms
 unfolding lex

@@ -12,9 +12,9 @@ use crate::word::{is_delimiter, is_space, is_word};
 pub(crate) fn lexeme(text: &[u8]) -> (Mark, &[u8])
     ensures { IsFirst (lex between text.now) result.0 (lex between result.1.now) }
 {
-    let front = past_spaces(text);
-    let [first, rest @ ..] = front else {
-        return (Mark::End, front);
+    let prefix = past_spaces(text);
+    let [first, rest @ ..] = prefix else {
+        return (Mark::End, prefix);
     };
     match *first {
         b'{' => (Mark::OpenBrace, rest),
@@ -28,7 +28,7 @@ pub(crate) fn lexeme(text: &[u8]) -> (Mark, &[u8])
             Some(left) => (Mark::Text, left),
             None => (Mark::Bad, rest),
         },
-        _ => if is_word(front) {
+        _ => if is_word(prefix) {
             (Mark::Word, past_word(rest))
         } else {
             (Mark::Bad, rest)

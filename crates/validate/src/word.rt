@@ -46,7 +46,7 @@ pub(crate) fn is_delimiter(byte: u8) -> bool
     is_operator(byte) || is_space(byte)
 }
 
-/// Whether a number or one of the literals stands in front, up to a delimiter or the end.
+/// Whether a number or one of the literals stands first, up to a delimiter or the end.
 #[tactic(auto, unfolding(json::specs::Word::word))]
 pub(crate) fn is_word(text: &[u8]) -> bool
     ensures { result ≡ is_good (word text.now) }
@@ -59,14 +59,14 @@ pub(crate) fn is_word(text: &[u8]) -> bool
     }
 }
 
-// Whether a literal of this name stands in front.
+// Whether a literal of this name stands first.
 fn is_literal(name: &[u8], text: &[u8]) -> bool
     ensures { result ≡ (starts_with nat_eq text.now name.now && ends_word (drop (length name.now) text.now)) }
 {
     text.starts_with(name) && is_delimiter(head(&text[name.len()..]))
 }
 
-// Whether a number stands in front.
+// Whether a number stands first.
 fn is_number(text: &[u8]) -> bool
     ensures { result ≡ is_good (number_before text.now (after_number text.now)) }
 {
@@ -133,7 +133,7 @@ fn after_sign(text: &[u8]) -> &[u8]
     }
 }
 
-// At least one digit stands in front.
+// At least one digit stands first.
 fn after_digits(text: &[u8]) -> Option<&[u8]>
     ensures { option_map (λ r. r.now) result ≡ after_digits text.now }
 {

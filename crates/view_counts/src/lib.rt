@@ -2,7 +2,7 @@
 #![tactic(auto)]
 
 mod reads;
-pub mod view;
+mod view;
 
 pub use reads::{count_places, count_reads};
 pub use view::ViewCounts;

@@ -1,7 +1,7 @@
 //! View edits: rows that come into a client's view and go, with what is behind them.
 #![tactic(auto)]
 
-pub mod edits;
+mod edits;
 pub mod fault;
 
 pub use edits::{forget_freed, hide, show};

@@ -117,7 +117,7 @@ not_full ps old f rises h l = few_kept _ _ (kept_count ps old f rises h) l
 pub full : (ps : List Pair) (old : List (ℕ × Standing)) → AllFit ps → RisesFrom entry_rank 0 old → ranks_of is_spare old ≡ [] → 65536 < length (with_spares ps old) → is_view_full (with_all ps (members_of old)) ≡ true
 full ps old f rises h l = many_kept _ _ (kept_count ps old f rises h) l
 
--- pairs that were refused: nothing changed
+-- pairs that were refused: nothing changed, and they would be too many or not, as is told
 pub refused : (ps : List Pair) (old new : List (ℕ × Standing)) (fault : MemberFault) → AllFit ps → RisesFrom entry_rank 0 old → ranks_of is_spare old ≡ [] → TakesRoom ps old new (Err fault) → Adds ps (members_of old) (members_of new) (Err fault)
 refused ps old new ViewFull f rises h taken = (full ps old f rises h taken.1, ap members_of taken.0)
-refused ps old new Memory f rises h taken = ap members_of taken
+refused ps old new Memory f rises h taken = (not_full ps old f rises h taken.1, ap members_of taken.0)

@@ -9,3 +9,4 @@ pub mod RowLaws
 pub mod SpareLaws
 pub mod StandingLaws
 pub mod TickLaws
+pub mod WantedLaws

@@ -10,7 +10,7 @@ use Rattle.view_members.specs.declared.fault.MemberFault.{MemberFault}
 use Rattle.view_members.specs.declared.fault.MemberFault.TheVariants.{ViewFull, Memory}
 use Rattle.view_members.specs.declared.standing.Standing.{Standing}
 use Rattle.view_members.specs.declared.standing.Standing.TheVariants.{Spare}
-use Rattle.view_members.specs.Standings.{AllFit, itself, entry_rank, standing_of, ranks_of, pairs_of, is_any, is_spare, is_kept, is_ranked, with_spare, with_spares, without_spare, without_spares, MakesRoom, TakesRoom}
+use Rattle.view_members.specs.Standings.{AllFit, itself, entry_rank, standing_of, ranks_of, pairs_of, is_any, is_spare, is_kept, is_ranked, with_spare, with_spares, without_spare, without_spares, MakesRoom}
 use Rattle.view_members.proofs.RankLists.{has, has_below, has-put, has_no_ranks, find-ranks, ranks_rise, put_passes, put_same, same_ranks}
 use Rattle.view_members.proofs.StandingLaws.{kept_not_spare}
 use Rattle.view_members.proofs.PairLists.{pairs_with}
@@ -148,12 +148,17 @@ ranked_at (q ∷ ps) (suc i) p l h = grind (arith, nat_tests, ranked_at ps i p (
 pub next_pair : (ps : List Pair) (i : ℕ) (p : Pair) → i < length ps → p ≡ get_or ps i p → drop i ps ≡ p ∷ drop (i + 1) ps
 next_pair ps i p l h = drop-cons ps i p l ∙ ap₂ (λ (x : Pair) (n : ℕ). x ∷ drop n ps) (sym h) (sym (add-one i))
 
--- a call that found no room for one pair: nothing changed
-pub no_room : (ps : List Pair) (i : ℕ) (p : Pair) (r : ℕ) (old es mid new : List (ℕ × Standing)) (fault : MemberFault) → i < length ps → p ≡ get_or ps i p → r ≡ pair_rank p →
-    RisesFrom entry_rank 0 es → with_spares ps old ≡ with_spares (drop i ps) es → without_spares ps es ≡ old → MakesRoom r es mid (Err fault) → new ≡ without_spares ps mid → TakesRoom ps old new (Err fault)
-no_room ps i p r old es mid new ViewFull l at is rises left back made gone =
+-- where there is no room for one pair, there is none for all
+pub no_room : (ps : List Pair) (i : ℕ) (p : Pair) (r : ℕ) (old es mid : List (ℕ × Standing)) (fault : MemberFault) → i < length ps → p ≡ get_or ps i p → r ≡ pair_rank p →
+    RisesFrom entry_rank 0 es → with_spares ps old ≡ with_spares (drop i ps) es → MakesRoom r es mid (Err fault) → fault ≡ ViewFull → 65536 < length (with_spares ps old)
+no_room ps i p r old es mid ViewFull l at is rises left made h =
     let all : with_spares ps old ≡ with_spares (drop (i + 1) ps) (with_spare r es) =
     left ∙ (ap (λ qs. with_spares qs es) (next_pair ps i p l at) ∙ ap (λ n. with_spares (drop (i + 1) ps) (with_spare n es)) (sym is)) in
     let longer = spares_longer (drop (i + 1) ps) (with_spare r es) (spare_rise r es rises) in
-    (gone ∙ (ap (without_spares ps) made.0 ∙ back), rw all (omega (arith, made.1, longer)))
-no_room ps i p r old es mid new Memory l at is rises left back made gone = gone ∙ (ap (without_spares ps) made.0 ∙ back)
+    rw all (omega (arith, made.1, longer))
+no_room ps i p r old es mid Memory l at is rises left made h = cc
+
+-- and the room that was taken is given back
+pub room_gone : (ps : List Pair) (r : ℕ) (old es mid new : List (ℕ × Standing)) (fault : MemberFault) → without_spares ps es ≡ old → MakesRoom r es mid (Err fault) → new ≡ without_spares ps mid → new ≡ old
+room_gone ps r old es mid new ViewFull back made gone = gone ∙ (ap (without_spares ps) made.0 ∙ back)
+room_gone ps r old es mid new Memory back made gone = gone ∙ (ap (without_spares ps) made.0 ∙ back)

@@ -19,12 +19,12 @@ without_all pairs m = record { now = without_pairs m.now pairs; last = m.last; k
 abbrev pub without_row : ℕ → Members → Members
 without_row who m = record { now = filter (λ (p : Pair). not (p.who == who)) m.now; last = m.last; kept = m.kept }
 
--- what an answer tells of pairs that are added: they are members; or they would be too many, exactly there, and nothing
--- changed; or memory was wanting, and nothing changed
+-- what an answer tells of pairs that are added: they are members; or they would be too many, whatever memory does, and
+-- nothing changed; or it is out of memory for pairs that aren't too many, and nothing changed
 abbrev pub Adds : List Pair → Members → Members → Result (Unit {0}) MemberFault → Type 0
 Adds pairs old new (Ok done) = (is_view_full (with_all pairs old) ≡ false) × (new ≡ with_all pairs old)
 Adds pairs old new (Err ViewFull) = (is_view_full (with_all pairs old) ≡ true) × (new ≡ old)
-Adds pairs old new (Err Memory) = new ≡ old
+Adds pairs old new (Err Memory) = (is_view_full (with_all pairs old) ≡ false) × (new ≡ old)
 
 -- the pairs now, at the last tick and kept rise, by row and then by tag, and those now are among those kept
 pub record AreKept (m : Members) : Type 0 where

@@ -1,5 +1,5 @@
 -- How pairs stand, by their ranks, and the members that this comes to.
-use Rattle.std.specs.Prelude.{ℕ, ◌/◌, ◌%◌, ◌^◌, ◌≡◌, ◌≤◌, ◌<◌, ◌==◌, Bool, true, false, cond, not, ◌&&◌, List, [], ◌∷◌, length, map, filter, Option, Some, None, Result, Ok, Err, is_some, nat_le, pos, ◌-ℤ◌}
+use Rattle.std.specs.Prelude.{ℕ, ◌+◌, ◌/◌, ◌%◌, ◌^◌, ◌≡◌, ◌≤◌, ◌<◌, ◌==◌, Bool, true, false, cond, not, ◌&&◌, List, [], ◌∷◌, length, map, filter, Option, Some, None, Result, Ok, Err, is_none, is_some, nat_le, pos, ◌-ℤ◌}
 use Rattle.std.specs.List.{list_any}
 use Rattle.std.specs.Int.{w16}
 use Rattle.std.specs.Int.RustNames.{FitsSigned}
@@ -161,17 +161,30 @@ without_spares ps es = filter (λ (e : ℕ × Standing). not (is_spare e.1 && is
 abbrev pub without_spare : ℕ → List (ℕ × Standing) → List (ℕ × Standing)
 without_spare r es = filter (λ (e : ℕ × Standing). not (is_spare e.1 && r == e.0)) es
 
--- what an answer tells of room for one pair; want of memory is told only where the pair isn't one too many
+-- what an answer tells of room for one pair; out of memory is told only where the pair isn't one too many
 abbrev pub MakesRoom : ℕ → List (ℕ × Standing) → List (ℕ × Standing) → Result (Unit {0}) MemberFault → Type 0
 MakesRoom r old new (Ok done) = (new ≡ with_spare r old) × (length new ≤ 65536)
 MakesRoom r old new (Err ViewFull) = (new ≡ old) × (65536 < length (with_spare r old))
 MakesRoom r old new (Err Memory) = (new ≡ old) × (length (with_spare r old) ≤ 65536)
 
+-- room for the pair of a rank is an entry more, where room for these pairs is taken behind it
+abbrev pub is_wanted : ℕ → List Pair → List (ℕ × Standing) → Bool
+is_wanted r later es = is_none (standing_of r es) && not (is_ranked later r)
+
+-- how many entries more there are with room for pairs
+abbrev pub wanted : List Pair → List (ℕ × Standing) → ℕ
+wanted [] es = 0
+wanted (p ∷ ps) es = cond (is_wanted (pair_rank p) ps es) 1 0 + wanted ps es
+
+-- why there is no room for pairs: they are too many; out of memory is told only where they aren't
+abbrev pub HasNoRoom : List Pair → List (ℕ × Standing) → MemberFault → Type 0
+HasNoRoom ps es ViewFull = 65536 < length (with_spares ps es)
+HasNoRoom ps es Memory = length (with_spares ps es) ≤ 65536
+
 -- what an answer tells of room for pairs
 abbrev pub TakesRoom : List Pair → List (ℕ × Standing) → List (ℕ × Standing) → Result (Unit {0}) MemberFault → Type 0
 TakesRoom ps old new (Ok done) = (new ≡ with_spares ps old) × (length new ≤ 65536) × (without_spares ps new ≡ old)
-TakesRoom ps old new (Err ViewFull) = (new ≡ old) × (65536 < length (with_spares ps old))
-TakesRoom ps old new (Err Memory) = new ≡ old
+TakesRoom ps old new (Err fault) = (new ≡ old) × HasNoRoom ps old fault
 
 -- the entries once a tick ended for a pair that changed and stands so
 abbrev pub settled : ℕ → Option Standing → List (ℕ × Standing) → List (ℕ × Standing)

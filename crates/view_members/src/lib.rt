@@ -2,7 +2,7 @@
 #![tactic(auto)]
 
 pub mod fault;
-pub mod members;
+mod members;
 mod rank;
 mod ranks;
 mod sets;

@@ -44,8 +44,9 @@ impl Members {
         })
     }
 
-    /// Adds pairs, in any order and with repeats: all of them or none. Takes logarithmic time for
-    /// each, but for the move of changed pairs behind it.
+    /// Adds pairs, in any order and with repeats: all of them or none. Where they would be too many
+    /// it answers `ViewFull`, whatever memory does. Takes logarithmic time for each, but for the
+    /// move of changed pairs behind it; where memory runs out, the square of their number.
     pub fn add_all(&mut self, pairs: &[Pair]) -> Result<(), MemberFault>
         ensures { Adds pairs.now self.old self.new result }
     {

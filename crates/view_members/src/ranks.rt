@@ -3,7 +3,7 @@ ghost use Rattle.std.specs.Prelude.{◌≡◌, ◌≤◌, ◌<◌, ◌-◌, [], 
 ghost use Rattle.lists.specs.Rising.{find, put, remove};
 ghost use Rattle.view_members.specs.Standings.{itself};
 
-use lists::{Memory, make_room};
+use lists::{Memory, reserve_total};
 use std::alloc::Global;
 use std::marker::Model;
 
@@ -56,7 +56,7 @@ impl Ranks {
         ensures ok { OnOk result (room ≤ self.new.room) }
         ensures kept { self.old.room ≤ self.new.room }
     {
-        make_room(&mut self.numbers, room)
+        reserve_total(&mut self.numbers, room)
     }
 
     /// Puts a rank in its place.

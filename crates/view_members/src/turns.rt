@@ -1,7 +1,8 @@
 //! Pairs that come and leave, and what a tick's end makes of them.
-ghost use Rattle.std.specs.Prelude.{◌≡◌, ◌<◌, ◌≤◌, ◌^◌, [], length};
+ghost use Rattle.std.specs.Prelude.{◌≡◌, ◌<◌, ◌≤◌, ◌^◌, [], length, nat_lt};
+ghost use Rattle.view_members.specs.declared.fault.MemberFault.TheVariants.{ViewFull};
 ghost use Rattle.view_members.specs.Sets.{without_row};
-ghost use Rattle.view_members.specs.Standings.{is_now, is_changed, is_passed, is_spare, ranks_of, members_of, add_at, remove_at, add_all, without_spare, without_spares, AllFit, IsKept, MakesRoom, TakesRoom, settled_at};
+ghost use Rattle.view_members.specs.Standings.{is_now, is_changed, is_passed, is_ranked, is_spare, is_wanted, ranks_of, members_of, add_at, remove_at, add_all, wanted, with_spares, without_spare, without_spares, AllFit, HasNoRoom, IsKept, MakesRoom, TakesRoom, settled_at};
 
 use crate::fault::MemberFault;
 use crate::rank::{TAGS, rank_of};
@@ -96,6 +97,61 @@ fn drop_spares(sets: &mut Sets, pairs: &[Pair])
     }
 }
 
+// Whether the pair of a rank is among these.
+fn is_ranked(pairs: &[Pair], rank: u64) -> bool
+    ensures { result ≡ is_ranked pairs.now rank }
+{
+    pairs.iter().any(|pair| rank_of(*pair) == rank)
+}
+
+// Whether room for the pair of a rank is an entry more, where room for these pairs is taken after it.
+fn is_wanted(sets: &Sets, rank: u64, later: &[Pair]) -> bool
+    ensures { result ≡ is_wanted rank later.now sets.now }
+{
+    match sets.get(rank) {
+        Some(_) => false,
+        None => !is_ranked(later, rank),
+    }
+}
+
+// How many entries more there are with room for these pairs. Each is looked for among all after it, which takes the
+// square of their number: this is asked only where memory ran out.
+fn wanted(sets: &Sets, pairs: &[Pair]) -> usize
+    ensures { result ≡ wanted pairs.now sets.now }
+{
+    let mut count = 0;
+    let mut left = pairs;
+    while let [pair, later @ ..] = left {
+        if is_wanted(sets, rank_of(*pair), later) {
+            count += 1;
+        }
+        left = later;
+    }
+    count
+}
+
+// Whether these pairs would be too many. It takes no memory.
+fn are_too_many(sets: &Sets, pairs: &[Pair]) -> bool
+    requires { length sets.now ≤ 65536 }
+    ensures { result ≡ nat_lt 65536 (length (with_spares pairs.now sets.now)) }
+{
+    sets.keeps();
+    wanted(sets, pairs) > LIMIT - sets.len()
+}
+
+// Why there is no room for these pairs, where one of them got none for this cause. Without memory for an earlier one a
+// later one may still be one too many.
+fn why_no_room(sets: &Sets, pairs: &[Pair], fault: MemberFault) -> MemberFault
+    requires few { length sets.now ≤ 65536 }
+    requires full { fault ≡ ViewFull → 65536 < length (with_spares pairs.now sets.now) }
+    ensures { HasNoRoom pairs.now sets.now result }
+{
+    match fault {
+        MemberFault::Memory if are_too_many(sets, pairs) => MemberFault::ViewFull,
+        fault => fault,
+    }
+}
+
 /// Room for these pairs, as far as they have no entries. An `Err` changes nothing.
 pub fn take_room(sets: &mut Sets, pairs: &[Pair]) -> Result<(), MemberFault>
     requires few { length sets.old ≤ 65536 }
@@ -108,7 +164,7 @@ pub fn take_room(sets: &mut Sets, pairs: &[Pair]) -> Result<(), MemberFault>
     for pair in pairs {
         if let Err(fault) = make_room(sets, rank_of(*pair)) {
             drop_spares(sets, pairs);
-            return Err(fault);
+            return Err(why_no_room(sets, pairs, fault));
         }
     }
     Ok(())

@@ -9,7 +9,7 @@ use Rattle.schema_model.specs.declared.place.Home.{Home}
 use Rattle.state_model.specs.declared.row.Row.{Row}
 use Rattle.state_model.specs.declared.row.Row.TheVariants.{Struct, Map, Array, Set}
 use Rattle.state_model.specs.declared.row.RowEntry.{RowEntry}
-use Rattle.state_model.specs.declared.place.Wanted.{Wanted}
+use Rattle.state_model.specs.declared.place.Expected.{Expected}
 use Rattle.wire_model.specs.declared.op.OpKey.{OpKey}
 use Rattle.wire_model.specs.Edits.{Carried, Edit, Add, Replace, DeleteAdd, Delete, Clear, DeleteByRef}
 use Rattle.wire_model.specs.Effect.{Body, opened, closed, closed_slots, effect, edited_row, drop_link}
@@ -95,22 +95,22 @@ module _ (ok : Edit → Bool) where
   changed_passes key new_key (Link n) c h = h.1
 
   -- the operation on a place passes, where DELETE passes and so does each way to put its new value
-  place_passes : (key new_key : OpKey) (rows : List RowEntry) (wanted : Option Wanted) (old new : Option Value) → ok (Delete key) ≡ true
-      → ((v : Value) → new ≡ Some v → PutsPass ok key new_key (carried rows wanted v)) → list_all ok (place_edit key new_key rows wanted old new) ≡ true
-  place_passes key new_key rows wanted None None d h = refl
-  place_passes key new_key rows wanted None (Some v) d h = and_from _ _ (h v refl).0 refl
-  place_passes key new_key rows wanted (Some u) None d h = and_from _ _ d refl
-  place_passes key new_key rows wanted (Some u) (Some v) d h = by (same_value u v)
+  place_passes : (key new_key : OpKey) (rows : List RowEntry) (expected : Option Expected) (old new : Option Value) → ok (Delete key) ≡ true
+      → ((v : Value) → new ≡ Some v → PutsPass ok key new_key (carried rows expected v)) → list_all ok (place_edit key new_key rows expected old new) ≡ true
+  place_passes key new_key rows expected None None d h = refl
+  place_passes key new_key rows expected None (Some v) d h = and_from _ _ (h v refl).0 refl
+  place_passes key new_key rows expected (Some u) None d h = and_from _ _ d refl
+  place_passes key new_key rows expected (Some u) (Some v) d h = by (same_value u v)
     where
-      by : (same : Bool) → list_all ok (cond same [] (changed_place key new_key v (carried rows wanted v) ∷ [])) ≡ true
+      by : (same : Bool) → list_all ok (cond same [] (changed_place key new_key v (carried rows expected v) ∷ [])) ≡ true
       by true = refl
-      by false = and_from _ _ (changed_passes key new_key v (carried rows wanted v) (h v refl)) refl
+      by false = and_from _ _ (changed_passes key new_key v (carried rows expected v) (h v refl)) refl
 
   -- the operations on places pass, each by its number
-  pub places_pass : (key new_key : ℕ → OpKey) (rows : List RowEntry) (wanted : ℕ → Option Wanted) (old new : ℕ → Option Value) (ns : List ℕ) → ((n : ℕ) → ok (Delete (key n)) ≡ true)
-      → ((n : ℕ) (v : Value) → new n ≡ Some v → PutsPass ok (key n) (new_key n) (carried rows (wanted n) v)) → list_all ok (flat_map (λ n. place_edit (key n) (new_key n) rows (wanted n) (old n) (new n)) ns) ≡ true
-  places_pass key new_key rows wanted old new ns d h =
-      all-flat_map ok (λ n. place_edit (key n) (new_key n) rows (wanted n) (old n) (new n)) ns (λ n. place_passes (key n) (new_key n) rows (wanted n) (old n) (new n) (d n) (h n))
+  pub places_pass : (key new_key : ℕ → OpKey) (rows : List RowEntry) (expected : ℕ → Option Expected) (old new : ℕ → Option Value) (ns : List ℕ) → ((n : ℕ) → ok (Delete (key n)) ≡ true)
+      → ((n : ℕ) (v : Value) → new n ≡ Some v → PutsPass ok (key n) (new_key n) (carried rows (expected n) v)) → list_all ok (flat_map (λ n. place_edit (key n) (new_key n) rows (expected n) (old n) (new n)) ns) ≡ true
+  places_pass key new_key rows expected old new ns d h =
+      all-flat_map ok (λ n. place_edit (key n) (new_key n) rows (expected n) (old n) (new n)) ns (λ n. place_passes (key n) (new_key n) rows (expected n) (old n) (new n) (d n) (h n))
 
   -- what a value that goes is deleted by passes
   drop_passes : ((n : ℕ) → ok (DeleteByRef n) ≡ true) → (v : Value) → list_all ok (drop_edit v) ≡ true

@@ -17,8 +17,8 @@ use Rattle.state_model.specs.declared.row.FieldValue.{FieldValue}
 use Rattle.state_model.specs.declared.row.MapItem.{MapItem}
 use Rattle.state_model.specs.declared.row.SetItem.{SetItem}
 use Rattle.state_model.specs.Rows.{emptied}
-use Rattle.state_model.specs.declared.place.Wanted.{Wanted}
-use Rattle.state_model.specs.Places.{field_wants, item_wants, is_filtered, same_kind}
+use Rattle.state_model.specs.declared.place.Expected.{Expected}
+use Rattle.state_model.specs.Places.{field_expects, item_expects, is_filtered, same_kind}
 use Rattle.wire_model.specs.declared.op.OpKey.TheVariants.{Field, Item, Named}
 use Rattle.wire_model.specs.Edits.{Edit, Add, Replace, DeleteAdd, Delete, Clear, AddByRef, DeleteByRef, carried_value}
 use Rattle.wire_model.specs.Effect.{Body, Fields, Items, Slots, Elements, closed, closed_slots, effect, edited_row, put_named, put_value, without_key, push_link, has_link, put_slot, add_slot, is_present_at}
@@ -177,16 +177,16 @@ module _ (p : ℕ → Value → Bool) (q : Value → Bool) (k : ℕ → List ℕ
   -- ---- all operations
 
   -- the ways to put a value that passes pass
-  field_puts : (i : ℕ) (rows : List RowEntry) (wanted : Option Wanted) (v : Value) → p i v ≡ true → PutsPass passes (Field i) (Field i) (carried rows wanted v)
-  field_puts i rows wanted v h = let t : p i (carried_value (carried rows wanted v)) ≡ true = rw (carried_is rows wanted v) h in (t, t, t)
+  field_puts : (i : ℕ) (rows : List RowEntry) (expected : Option Expected) (v : Value) → p i v ≡ true → PutsPass passes (Field i) (Field i) (carried rows expected v)
+  field_puts i rows expected v h = let t : p i (carried_value (carried rows expected v)) ≡ true = rw (carried_is rows expected v) h in (t, t, t)
 
   -- the same for an item of an array or a set
-  item_puts : (n : ℕ) (rows : List RowEntry) (wanted : Option Wanted) (v : Value) → q v ≡ true → PutsPass passes (Item n) (Item n) (carried rows wanted v)
-  item_puts n rows wanted v h = let t : q (carried_value (carried rows wanted v)) ≡ true = rw (carried_is rows wanted v) h in (t, t, t)
+  item_puts : (n : ℕ) (rows : List RowEntry) (expected : Option Expected) (v : Value) → q v ≡ true → PutsPass passes (Item n) (Item n) (carried rows expected v)
+  item_puts n rows expected v h = let t : q (carried_value (carried rows expected v)) ≡ true = rw (carried_is rows expected v) h in (t, t, t)
 
   -- the same for an item of a map
-  named_puts : (n : ℕ) (key : List ℕ) (rows : List RowEntry) (wanted : Option Wanted) (v : Value) → q v ≡ true → k n key ≡ true → PutsPass passes (Item n) (Named n key) (carried rows wanted v)
-  named_puts n key rows wanted v h l = let t : q (carried_value (carried rows wanted v)) ≡ true = rw (carried_is rows wanted v) h in (and_from _ _ t l, and_from _ _ t l, t)
+  named_puts : (n : ℕ) (key : List ℕ) (rows : List RowEntry) (expected : Option Expected) (v : Value) → q v ≡ true → k n key ≡ true → PutsPass passes (Item n) (Named n key) (carried rows expected v)
+  named_puts n key rows expected v h l = let t : q (carried_value (carried rows expected v)) ≡ true = rw (carried_is rows expected v) h in (and_from _ _ t l, and_from _ _ t l, t)
 
   -- the value of a field passes
   field_found : (i : ℕ) (fields : List FieldValue) (v : Value) → list_all field_passes fields ≡ true → field_value fields i ≡ Some v → p i v ≡ true
@@ -211,33 +211,33 @@ module _ (p : ℕ → Value → Bool) (q : Value → Bool) (k : ℕ → List ℕ
       (subst (λ u. q u ≡ true) x.2 two.0, subst (λ o. k n (item_key o) ≡ true) (sym x.1) (subst (λ j. k j x.0.key ≡ true) e two.1))
 
   -- values that pass pass as an operation carries them
-  pushes_pass : (schema : Schema) (rows : List RowEntry) (home : Home) (values : List Value) → list_all q values ≡ true → list_all (λ v. q (carried_value (carried rows (item_wants schema home) v))) values ≡ true
+  pushes_pass : (schema : Schema) (rows : List RowEntry) (home : Home) (values : List Value) → list_all q values ≡ true → list_all (λ v. q (carried_value (carried rows (item_expects schema home) v))) values ≡ true
   pushes_pass schema rows home [] a = refl
   pushes_pass schema rows home (v ∷ vs) a =
       let two = and_parts (q v) (list_all q vs) a in
-      and_from _ _ (rw (carried_is rows (item_wants schema home) v) two.0) (pushes_pass schema rows home vs two.1)
+      and_from _ _ (rw (carried_is rows (item_expects schema home) v) two.0) (pushes_pass schema rows home vs two.1)
 
   -- what the operations put that lead to an array passes, where its values do
   array_passes : (schema : Schema) (rows : List RowEntry) (home : Home) (old new : List Value) (filtered : Bool) → list_all q new ≡ true
       → list_all passes (cond filtered (ref_edits schema rows home old new) (slot_edits schema rows home old new)) ≡ true
   array_passes schema rows home old new true a = ref_edits_pass passes schema rows home old new refl (λ n. refl) (pushes_pass schema rows home new a)
   array_passes schema rows home old new false a =
-      places_pass passes Item Item rows (λ at. item_wants schema home) (slice_get old) (slice_get new) (range_with_len 0 (max (length old) (length new)))
-      (λ at. refl) (λ at v e. item_puts at rows (item_wants schema home) v (all-slice_get q new at v a e))
+      places_pass passes Item Item rows (λ at. item_expects schema home) (slice_get old) (slice_get new) (range_with_len 0 (max (length old) (length new)))
+      (λ at. refl) (λ at v e. item_puts at rows (item_expects schema home) v (all-slice_get q new at v a e))
 
   -- what the operations put that lead to a row passes, where the places of the row do
   row_passes : (schema : Schema) (rows : List RowEntry) (a b : Row) → all_places p q k b ≡ true → list_all passes (row_edits schema rows a b) ≡ true
   row_passes schema rows (Struct first old) (Struct class new) h =
-      places_pass passes Field Field rows (field_wants schema class) (field_value old) (field_value new) (either_number (map (λ (f : FieldValue). f.field) old) (map (λ (f : FieldValue). f.field) new))
-      (λ i. refl) (λ i v e. field_puts i rows (field_wants schema class i) v (field_found i new v h e))
+      places_pass passes Field Field rows (field_expects schema class) (field_value old) (field_value new) (either_number (map (λ (f : FieldValue). f.field) old) (map (λ (f : FieldValue). f.field) new))
+      (λ i. refl) (λ i v e. field_puts i rows (field_expects schema class i) v (field_found i new v h e))
   row_passes schema rows (Map first old) (Map home new) h =
-      places_pass passes Item (λ n. Named n (item_key (map_item new n))) rows (λ n. item_wants schema home) (λ n. item_value (map_item old n)) (λ n. item_value (map_item new n))
+      places_pass passes Item (λ n. Named n (item_key (map_item new n))) rows (λ n. item_expects schema home) (λ n. item_value (map_item old n)) (λ n. item_value (map_item new n))
       (either_number (map (λ (i : MapItem). i.number) old) (map (λ (i : MapItem). i.number) new))
-      (λ n. refl) (λ n v e. let two = item_found n new v h e in named_puts n (item_key (map_item new n)) rows (item_wants schema home) v two.0 two.1)
+      (λ n. refl) (λ n v e. let two = item_found n new v h e in named_puts n (item_key (map_item new n)) rows (item_expects schema home) v two.0 two.1)
   row_passes schema rows (Array first old) (Array home new) h = array_passes schema rows home old new (is_filtered schema home) h
   row_passes schema rows (Set first old) (Set home new) h =
-      places_pass passes Item Item rows (λ n. item_wants schema home) (set_value old) (set_value new) (either_number (map (λ (i : SetItem). i.number) old) (map (λ (i : SetItem). i.number) new))
-      (λ n. refl) (λ n v e. item_puts n rows (item_wants schema home) v (element_found n new v h e))
+      places_pass passes Item Item rows (λ n. item_expects schema home) (set_value old) (set_value new) (either_number (map (λ (i : SetItem). i.number) old) (map (λ (i : SetItem). i.number) new))
+      (λ n. refl) (λ n v e. item_puts n rows (item_expects schema home) v (element_found n new v h e))
   row_passes schema rows a b h = refl
 
   -- operations that pass leave places that pass

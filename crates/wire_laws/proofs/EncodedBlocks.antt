@@ -74,13 +74,13 @@ follows_wider (b ∷ bs) there more w f =
     (w b.holder f.0, follows_wider bs (λ n. there n || is_among n (named_in b.edits)) (λ n. more n || is_among n (named_in b.edits)) (λ n. or_wider (there n) (more n) (is_among n (named_in b.edits)) (w n)) f.1)
 
 -- blocks behind others may have the holders that those name
-Follows-append : (front back : List EditBlock) (there : ℕ → Bool) → Follows there front → Follows (λ n. there n || is_among n (named_by_blocks front)) back → Follows there (front ++ back)
+Follows-append : (prefix back : List EditBlock) (there : ℕ → Bool) → Follows there prefix → Follows (λ n. there n || is_among n (named_by_blocks prefix)) back → Follows there (prefix ++ back)
 Follows-append [] back there f g = follows_wider back (λ n. there n || false) there (λ n h. or-none (there n) ∙ h) g
-Follows-append (a ∷ front) back there f g = (
+Follows-append (a ∷ prefix) back there f g = (
   f.0,
-  Follows-append front back (λ n. there n || is_among n (named_in a.edits)) f.1
-      (follows_wider back (λ n. there n || is_among n (named_in a.edits ++ named_by_blocks front)) (λ n. (there n || is_among n (named_in a.edits)) || is_among n (named_by_blocks front))
-      (λ n h. or_moved (there n) (is_among n (named_in a.edits)) (is_among n (named_by_blocks front)) ∙ (ap (λ b. there n || b) (sym (among_both (named_in a.edits) (named_by_blocks front) n)) ∙ h)) g),
+  Follows-append prefix back (λ n. there n || is_among n (named_in a.edits)) f.1
+      (follows_wider back (λ n. there n || is_among n (named_in a.edits ++ named_by_blocks prefix)) (λ n. (there n || is_among n (named_in a.edits)) || is_among n (named_by_blocks prefix))
+      (λ n h. or_moved (there n) (is_among n (named_in a.edits)) (is_among n (named_by_blocks prefix)) ∙ (ap (λ b. there n || b) (sym (among_both (named_in a.edits) (named_by_blocks prefix) n)) ∙ h)) g),
 )
 
 -- blocks that lead to new rows mean again what they were, where each holder is known or named before

@@ -15,8 +15,8 @@ use Rattle.state_model.specs.declared.row.Row.TheVariants.{Struct, Map, Array, S
 use Rattle.state_model.specs.declared.row.RowEntry.{RowEntry}
 use Rattle.state_model.specs.Values.{is_link}
 use Rattle.state_model.specs.Rows.{row_at, is_live, emptied}
-use Rattle.state_model.specs.declared.place.Wanted.{Wanted}
-use Rattle.state_model.specs.declared.place.Wanted.TheVariants.{Item as AnItem, Collection as ACollection}
+use Rattle.state_model.specs.declared.place.Expected.{Expected}
+use Rattle.state_model.specs.declared.place.Expected.TheVariants.{Item as AnItem, Collection as ACollection}
 use Rattle.state_model.specs.Places.{collection_of, empty_collection, same_kind, same_home, row_class, row_home}
 use Rattle.state_model.specs.Sound.{are_rows_of, has_kind, fits_place, is_collection_of, is_instance_of}
 use Rattle.state_laws.proofs.Numbers.{at_live}
@@ -59,9 +59,9 @@ declared_kind r rest (Some x) empty h = sym (emptied_of_kind r x h ∙ empty x r
 home_kind : (schema : Schema) (home : Home) (r : Row) → option_map_or (same_kind r) (empty_collection schema home) false ≡ true → new_collection schema (Some (ACollection home)) ≡ emptied r
 home_kind schema home r h = declared_kind r (Array home []) (empty_collection schema home) (λ x. empty_declared home (home_field schema home) x) h
 
--- a link to a collection fits where the place wants the collection's home
-wants_home : (schema : Schema) (rows : List RowEntry) (n : ℕ) (wanted : Option Wanted) (r : Row) (home : Home) → row_at rows n ≡ Some r → row_class r ≡ None → row_home r ≡ Some home
-    → fits_place schema rows (value.Link n) wanted ≡ true → wanted ≡ Some (ACollection home)
+-- a link to a collection fits where the place expects the collection's home
+wants_home : (schema : Schema) (rows : List RowEntry) (n : ℕ) (expected : Option Expected) (r : Row) (home : Home) → row_at rows n ≡ Some r → row_class r ≡ None → row_home r ≡ Some home
+    → fits_place schema rows (value.Link n) expected ≡ true → expected ≡ Some (ACollection home)
 wants_home schema rows n None r home is class is_home h = cc
 wants_home schema rows n (Some (AnItem (item.Scalar k))) r home is class is_home h = let no = fits_no_link k n in cc
 wants_home schema rows n (Some (AnItem (item.Class c))) r home is class is_home h =
@@ -73,50 +73,50 @@ wants_home schema rows n (Some (ACollection a)) r home is class is_home h =
 -- ---- one value
 
 -- what an unknown link means: its row without its places
-abbrev unknown_means : Schema → Option Wanted → Row → Row
-unknown_means schema wanted r = option_map_or (λ class. new_instance (Some class) wanted) (row_class r) (new_collection schema wanted)
+abbrev unknown_means : Schema → Option Expected → Row → Row
+unknown_means schema expected r = option_map_or (λ class. new_instance (Some class) expected) (row_class r) (new_collection schema expected)
 
 -- an unknown link that fits means its row without its places
-unknown_kind : (schema : Schema) (rows : List RowEntry) (n : ℕ) (wanted : Option Wanted) (r : Row) → row_at rows n ≡ Some r → has_kind schema r ≡ true → fits_place schema rows (value.Link n) wanted ≡ true
-    → unknown_means schema wanted (emptied r) ≡ emptied r
-unknown_kind schema rows n wanted (Struct class fields) is has h = refl
-unknown_kind schema rows n wanted (Map home items) is has h =
-    ap (new_collection schema) (wants_home schema rows n wanted (Map home items) home is refl refl h) ∙ home_kind schema home (Map home items) has
-unknown_kind schema rows n wanted (Array home values) is has h =
-    ap (new_collection schema) (wants_home schema rows n wanted (Array home values) home is refl refl h) ∙ home_kind schema home (Array home values) has
-unknown_kind schema rows n wanted (Set home items) is has h =
-    ap (new_collection schema) (wants_home schema rows n wanted (Set home items) home is refl refl h) ∙ home_kind schema home (Set home items) has
+unknown_kind : (schema : Schema) (rows : List RowEntry) (n : ℕ) (expected : Option Expected) (r : Row) → row_at rows n ≡ Some r → has_kind schema r ≡ true → fits_place schema rows (value.Link n) expected ≡ true
+    → unknown_means schema expected (emptied r) ≡ emptied r
+unknown_kind schema rows n expected (Struct class fields) is has h = refl
+unknown_kind schema rows n expected (Map home items) is has h =
+    ap (new_collection schema) (wants_home schema rows n expected (Map home items) home is refl refl h) ∙ home_kind schema home (Map home items) has
+unknown_kind schema rows n expected (Array home values) is has h =
+    ap (new_collection schema) (wants_home schema rows n expected (Array home values) home is refl refl h) ∙ home_kind schema home (Array home values) has
+unknown_kind schema rows n expected (Set home items) is has h =
+    ap (new_collection schema) (wants_home schema rows n expected (Set home items) home is refl refl h) ∙ home_kind schema home (Set home items) has
 
 -- what a told link means: the known row, else what an unknown link means
-link_encoded : (schema : Schema) (known : List RowEntry) (wanted : Option Wanted) (n : ℕ) (r : Row)
-    → resolved_value schema known wanted (encoded_link true n (row_class r)) ≡ Linked n (option_map_or (λ x. x) (row_at known n) (unknown_means schema wanted r))
-link_encoded schema known wanted n (Struct class fields) = refl
-link_encoded schema known wanted n (Map home items) = refl
-link_encoded schema known wanted n (Array home values) = refl
-link_encoded schema known wanted n (Set home items) = refl
+link_encoded : (schema : Schema) (known : List RowEntry) (expected : Option Expected) (n : ℕ) (r : Row)
+    → resolved_value schema known expected (encoded_link true n (row_class r)) ≡ Linked n (option_map_or (λ x. x) (row_at known n) (unknown_means schema expected r))
+link_encoded schema known expected n (Struct class fields) = refl
+link_encoded schema known expected n (Map home items) = refl
+link_encoded schema known expected n (Array home values) = refl
+link_encoded schema known expected n (Set home items) = refl
 
 -- a link that was told under an operation that adds means again what was carried
-link_means : (schema : Schema) (new known : List RowEntry) (wanted : Option Wanted) (n : ℕ) → are_rows_of schema new ≡ true → Knows new known → fits_place schema new (value.Link n) wanted ≡ true
-    → resolved_value schema known wanted (encoded_link true n (row_class (kind_in new n))) ≡ Linked n (kind_in new n)
-link_means schema new known wanted n rows k h =
-    let live = fits_live schema new n (value.Link n) wanted h (grind (arith, nat_tests)) in
+link_means : (schema : Schema) (new known : List RowEntry) (expected : Option Expected) (n : ℕ) → are_rows_of schema new ≡ true → Knows new known → fits_place schema new (value.Link n) expected ≡ true
+    → resolved_value schema known expected (encoded_link true n (row_class (kind_in new n))) ≡ Linked n (kind_in new n)
+link_means schema new known expected n rows k h =
+    let live = fits_live schema new n (value.Link n) expected h (grind (arith, nat_tests)) in
     let row = at_live new n live in
     let is = kind_of new n row.0 row.1 in
-    let unknown = ap (unknown_means schema wanted) is ∙ (unknown_kind schema new n wanted row.0 row.1 (rows_fit schema new rows n row.0 row.1).0 h ∙ sym is) in
-    link_encoded schema known wanted n (kind_in new n) ∙ ap (Linked n) (either_way (row_at known n) _ (kind_in new n) (λ r at. k.kinds n r at live) unknown)
+    let unknown = ap (unknown_means schema expected) is ∙ (unknown_kind schema new n expected row.0 row.1 (rows_fit schema new rows n row.0 row.1).0 h ∙ sym is) in
+    link_encoded schema known expected n (kind_in new n) ∙ ap (Linked n) (either_way (row_at known n) _ (kind_in new n) (λ r at. k.kinds n r at live) unknown)
 
 -- a value that was told under an operation that adds means again what was carried
-pub added_means : (schema : Schema) (new known : List RowEntry) (wanted : Option Wanted) (v : Value) → are_rows_of schema new ≡ true → Knows new known → fits_place schema new v wanted ≡ true
-    → resolved_value schema known wanted (encoded_value true (carried new wanted v)) ≡ carried new wanted v
-added_means schema new known wanted (value.Whole z) rows k h = refl
-added_means schema new known wanted (value.Str t) rows k h = refl
-added_means schema new known wanted (value.Truth b) rows k h = refl
-added_means schema new known wanted (value.Link n) rows k h = link_means schema new known wanted n rows k h
+pub added_means : (schema : Schema) (new known : List RowEntry) (expected : Option Expected) (v : Value) → are_rows_of schema new ≡ true → Knows new known → fits_place schema new v expected ≡ true
+    → resolved_value schema known expected (encoded_value true (carried new expected v)) ≡ carried new expected v
+added_means schema new known expected (value.Whole z) rows k h = refl
+added_means schema new known expected (value.Str t) rows k h = refl
+added_means schema new known expected (value.Truth b) rows k h = refl
+added_means schema new known expected (value.Link n) rows k h = link_means schema new known expected n rows k h
 
 -- a scalar that was told means again what was carried
-pub scalar_means : (schema : Schema) (new known : List RowEntry) (wanted : Option Wanted) (v : Value) (adds : Bool) → is_link v ≡ false
-    → resolved_value schema known wanted (encoded_value adds (carried new wanted v)) ≡ carried new wanted v
-scalar_means schema new known wanted (value.Whole z) adds h = refl
-scalar_means schema new known wanted (value.Str t) adds h = refl
-scalar_means schema new known wanted (value.Truth b) adds h = refl
-scalar_means schema new known wanted (value.Link n) adds h = cc
+pub scalar_means : (schema : Schema) (new known : List RowEntry) (expected : Option Expected) (v : Value) (adds : Bool) → is_link v ≡ false
+    → resolved_value schema known expected (encoded_value adds (carried new expected v)) ≡ carried new expected v
+scalar_means schema new known expected (value.Whole z) adds h = refl
+scalar_means schema new known expected (value.Str t) adds h = refl
+scalar_means schema new known expected (value.Truth b) adds h = refl
+scalar_means schema new known expected (value.Link n) adds h = cc

@@ -18,9 +18,9 @@ use Rattle.state_model.specs.declared.row.MapItem.{MapItem}
 use Rattle.state_model.specs.declared.row.SetItem.{SetItem}
 use Rattle.state_model.specs.Values.{is_link}
 use Rattle.state_model.specs.Rows.{row_at}
-use Rattle.state_model.specs.declared.place.Wanted.TheVariants.{Item as AnItem}
-use Rattle.state_model.specs.Places.{is_filtered, holds_instances, item_wants, instance_class}
-use Rattle.state_model.specs.Sound.{differ, places_fit, fits_place, fits_wanted, are_rows_of}
+use Rattle.state_model.specs.declared.place.Expected.TheVariants.{Item as AnItem}
+use Rattle.state_model.specs.Places.{is_filtered, holds_instances, item_expects, instance_class}
+use Rattle.state_model.specs.Sound.{differ, places_fit, fits_place, fits_expected, are_rows_of}
 use Rattle.state_laws.proofs.Tests.{list_all_wider}
 use Rattle.state_laws.proofs.FittingRows.{rises_where}
 use Rattle.state_laws.proofs.RowsOf.{rows_fit}
@@ -28,7 +28,7 @@ use Rattle.wire_laws.proofs.Forms.{IsFormed}
 
 -- ---- a filtered array holds links
 
-item_is_link : (schema : Schema) (rows : List RowEntry) (i : Item) (v : Value) → is_some (instance_class i) ≡ true → fits_wanted schema rows (AnItem i) v ≡ true → is_link v ≡ true
+item_is_link : (schema : Schema) (rows : List RowEntry) (i : Item) (v : Value) → is_some (instance_class i) ≡ true → fits_expected schema rows (AnItem i) v ≡ true → is_link v ≡ true
 item_is_link schema rows (item.Scalar k) v h fit = cc
 item_is_link schema rows (item.Class c) (value.Link n) h fit = refl
 item_is_link schema rows (item.Class c) (value.Whole z) h fit = fit
@@ -41,7 +41,7 @@ instances_are_links : (schema : Schema) (rows : List RowEntry) (o : Option Field
 instances_are_links schema rows None v h fit = cc
 instances_are_links schema rows (Some f) v h fit = item_is_link schema rows (item_of f.shape) v h fit
 
-item_links : (schema : Schema) (rows : List RowEntry) (home : Home) (v : Value) → holds_instances schema home ≡ true → fits_place schema rows v (item_wants schema home) ≡ true → is_link v ≡ true
+item_links : (schema : Schema) (rows : List RowEntry) (home : Home) (v : Value) → holds_instances schema home ≡ true → fits_place schema rows v (item_expects schema home) ≡ true → is_link v ≡ true
 item_links schema rows home v h fit = instances_are_links schema rows (home_field schema home) v h fit
 
 -- ---- rows
@@ -58,7 +58,7 @@ formed_place schema rows (Array home values) h = λ filtered.
     let parts = and_parts _ _ h in
     let instances = (and_parts _ _ filtered).1 in (
       differs_of (is_filtered schema home) (differ values) filtered parts.0,
-      list_all_wider (λ v. fits_place schema rows v (item_wants schema home)) is_link values (λ v here fit. item_links schema rows home v instances fit) parts.1,
+      list_all_wider (λ v. fits_place schema rows v (item_expects schema home)) is_link values (λ v here fit. item_links schema rows home v instances fit) parts.1,
     )
 formed_place schema rows (Set home items) h = rises_where (λ (i : SetItem). i.number) items (and_parts _ _ h).0
 

@@ -15,8 +15,8 @@ use Rattle.state_model.specs.declared.row.Row.TheVariants.{Struct, Map, Array, S
 use Rattle.state_model.specs.declared.row.RowEntry.{RowEntry}
 use Rattle.state_model.specs.Values.{same_value}
 use Rattle.state_model.specs.Rows.{number_of, row_at, is_live, put_row, emptied}
-use Rattle.state_model.specs.declared.place.Wanted.{Wanted}
-use Rattle.state_model.specs.Places.{field_wants, item_wants, is_filtered}
+use Rattle.state_model.specs.declared.place.Expected.{Expected}
+use Rattle.state_model.specs.Places.{field_expects, item_expects, is_filtered}
 use Rattle.state_model.specs.Reached.{is_among}
 use Rattle.wire_model.specs.declared.op.OpKey.{OpKey}
 use Rattle.wire_model.specs.declared.op.OpKey.TheVariants.{Field, Item, Named}
@@ -55,26 +55,26 @@ CarriesKinds-map rows f [] c = tt
 CarriesKinds-map rows f (x ∷ xs) c = (c x, CarriesKinds-map rows f xs c)
 
 -- a value is carried with the kind of its number
-carried_kind : (rows : List RowEntry) (wanted : Option Wanted) (v : Value) → CarriesKind rows (Some (carried rows wanted v))
-carried_kind rows wanted (Whole z) = tt
-carried_kind rows wanted (Str t) = tt
-carried_kind rows wanted (Truth b) = tt
-carried_kind rows wanted (Link n) = refl
+carried_kind : (rows : List RowEntry) (expected : Option Expected) (v : Value) → CarriesKind rows (Some (carried rows expected v))
+carried_kind rows expected (Whole z) = tt
+carried_kind rows expected (Str t) = tt
+carried_kind rows expected (Truth b) = tt
+carried_kind rows expected (Link n) = refl
 
 -- the operation on a place with another value
-changed_carries : (key new_key : OpKey) (rows : List RowEntry) (wanted : Option Wanted) (v : Value) → CarriesKinds rows (changed_place key new_key v (carried rows wanted v) ∷ [])
-changed_carries key new_key rows wanted (Whole z) = (tt, tt)
-changed_carries key new_key rows wanted (Str t) = (tt, tt)
-changed_carries key new_key rows wanted (Truth b) = (tt, tt)
-changed_carries key new_key rows wanted (Link n) = (refl, tt)
+changed_carries : (key new_key : OpKey) (rows : List RowEntry) (expected : Option Expected) (v : Value) → CarriesKinds rows (changed_place key new_key v (carried rows expected v) ∷ [])
+changed_carries key new_key rows expected (Whole z) = (tt, tt)
+changed_carries key new_key rows expected (Str t) = (tt, tt)
+changed_carries key new_key rows expected (Truth b) = (tt, tt)
+changed_carries key new_key rows expected (Link n) = (refl, tt)
 
 -- the operation on a place
-place_carries : (key new_key : OpKey) (rows : List RowEntry) (wanted : Option Wanted) (old new : Option Value) → CarriesKinds rows (place_edit key new_key rows wanted old new)
-place_carries key new_key rows wanted None None = tt
-place_carries key new_key rows wanted None (Some v) = (carried_kind rows wanted v, tt)
-place_carries key new_key rows wanted (Some u) None = (tt, tt)
-place_carries key new_key rows wanted (Some u) (Some v) =
-    let go : (b : Bool) → CarriesKinds rows (cond b [] (changed_place key new_key v (carried rows wanted v) ∷ [])) = elim [ true ↦ tt | false ↦ changed_carries key new_key rows wanted v ] in
+place_carries : (key new_key : OpKey) (rows : List RowEntry) (expected : Option Expected) (old new : Option Value) → CarriesKinds rows (place_edit key new_key rows expected old new)
+place_carries key new_key rows expected None None = tt
+place_carries key new_key rows expected None (Some v) = (carried_kind rows expected v, tt)
+place_carries key new_key rows expected (Some u) None = (tt, tt)
+place_carries key new_key rows expected (Some u) (Some v) =
+    let go : (b : Bool) → CarriesKinds rows (cond b [] (changed_place key new_key v (carried rows expected v) ∷ [])) = elim [ true ↦ tt | false ↦ changed_carries key new_key rows expected v ] in
     go (same_value u v)
 
 -- the operations that delete an instance
@@ -86,7 +86,7 @@ drop_carries rows (Link n) = (tt, tt)
 
 -- the operations that add instances
 pushes_carry : (schema : Schema) (rows : List RowEntry) (home : Home) (vs : List Value) → CarriesKinds rows (map (push_edit schema rows home) vs)
-pushes_carry schema rows home vs = CarriesKinds-map rows (push_edit schema rows home) vs (λ v. carried_kind rows (item_wants schema home) v)
+pushes_carry schema rows home vs = CarriesKinds-map rows (push_edit schema rows home) vs (λ v. carried_kind rows (item_expects schema home) v)
 
 -- the operations on a filtered array
 refs_carry : (schema : Schema) (rows : List RowEntry) (home : Home) (old new : List Value) (b : Bool) → CarriesKinds rows (cond b (flat_map drop_edit (gone_of new old) ++ map (push_edit schema rows home) (gone_of old new)) (Clear ∷ map (push_edit schema rows home) new))
@@ -99,14 +99,14 @@ refs_carry schema rows home old new false = (tt, pushes_carry schema rows home n
 array_carries : (schema : Schema) (rows : List RowEntry) (home : Home) (old new : List Value) (b : Bool) → CarriesKinds rows (cond b (ref_edits schema rows home old new) (slot_edits schema rows home old new))
 array_carries schema rows home old new true = refs_carry schema rows home old new (same_values new (kept_of new old ++ gone_of old new))
 array_carries schema rows home old new false =
-    CarriesKinds-flat_map rows _ (range_with_len 0 (max (length old) (length new))) (λ at. place_carries (Item at) (Item at) rows (item_wants schema home) (slice_get old at) (slice_get new at))
+    CarriesKinds-flat_map rows _ (range_with_len 0 (max (length old) (length new))) (λ at. place_carries (Item at) (Item at) rows (item_expects schema home) (slice_get old at) (slice_get new at))
 
 -- the operations that lead to a row carry the kinds of their links
 pub row_carries : (schema : Schema) (rows : List RowEntry) (a b : Row) → CarriesKinds rows (row_edits schema rows a b)
-row_carries schema rows (Struct a old) (Struct b new) = CarriesKinds-flat_map rows _ _ (λ i. place_carries (Field i) (Field i) rows (field_wants schema b i) (field_value old i) (field_value new i))
-row_carries schema rows (Map a old) (Map b new) = CarriesKinds-flat_map rows _ _ (λ n. place_carries (Item n) (Named n (item_key (map_item new n))) rows (item_wants schema b) (item_value (map_item old n)) (item_value (map_item new n)))
+row_carries schema rows (Struct a old) (Struct b new) = CarriesKinds-flat_map rows _ _ (λ i. place_carries (Field i) (Field i) rows (field_expects schema b i) (field_value old i) (field_value new i))
+row_carries schema rows (Map a old) (Map b new) = CarriesKinds-flat_map rows _ _ (λ n. place_carries (Item n) (Named n (item_key (map_item new n))) rows (item_expects schema b) (item_value (map_item old n)) (item_value (map_item new n)))
 row_carries schema rows (Array a old) (Array b new) = array_carries schema rows b old new (is_filtered schema b)
-row_carries schema rows (Set a old) (Set b new) = CarriesKinds-flat_map rows _ _ (λ n. place_carries (Item n) (Item n) rows (item_wants schema b) (set_value old n) (set_value new n))
+row_carries schema rows (Set a old) (Set b new) = CarriesKinds-flat_map rows _ _ (λ n. place_carries (Item n) (Item n) rows (item_expects schema b) (set_value old n) (set_value new n))
 row_carries schema rows a b = tt
 
 -- CLEAR carries nothing

@@ -14,7 +14,7 @@ use Rattle.state_model.specs.declared.row.RowEntry.{RowEntry}
 use Rattle.state_model.specs.declared.row.MapItem.{MapItem}
 use Rattle.state_model.specs.Values.{same_value, is_link}
 use Rattle.state_model.specs.Sound.{keys_differ}
-use Rattle.state_model.specs.Places.{item_wants}
+use Rattle.state_model.specs.Places.{item_expects}
 use Rattle.state_model.specs.Reached.{is_among}
 use Rattle.wire_model.specs.declared.op.OpKey.TheVariants.{Item, Named}
 use Rattle.wire_model.specs.Edits.{Edit, carried_value}
@@ -198,7 +198,7 @@ module _ (old new : List MapItem) (differ : keys_differ (map (λ (i : MapItem). 
 
     -- the operations at a number
     abbrev edits_at : ℕ → Option MapItem → Option MapItem → List Edit
-    edits_at u o n = place_edit (Item u) (Named u (item_key n)) rows (item_wants schema declared) (item_value o) (item_value n)
+    edits_at u o n = place_edit (Item u) (Named u (item_key n)) rows (item_expects schema declared) (item_value o) (item_value n)
 
     -- a number that neither has looks up as in new
     waits_none : (u : ℕ) (items : List MapItem) → Waits number old new u items → find number u old ≡ None → find number u new ≡ None → find number u items ≡ find number u new
@@ -221,12 +221,12 @@ module _ (old new : List MapItem) (differ : keys_differ (map (λ (i : MapItem). 
         ∙ ap (λ j. let i : MapItem = record { number = y.number; key = y.key; value = j } in i) values
 
     -- the value that is carried is that of new
-    carries : (v : Value) → carried_value (carried rows (item_wants schema declared) v) ≡ v
-    carries v = carried_is rows (item_wants schema declared) v
+    carries : (v : Value) → carried_value (carried rows (item_expects schema declared) v) ≡ v
+    carries v = carried_is rows (item_expects schema declared) v
 
     -- the operation on an item that has another value
     change_next : (left : List ℕ) (u : ℕ) (items : List MapItem) (x y : MapItem) → Between number old new left items → find number u items ≡ Some x → find number u new ≡ Some y → (link : Bool) → is_link y.value ≡ link
-        → Next left u items (changed_place (Item u) (Named u y.key) y.value (carried rows (item_wants schema declared) y.value) ∷ [])
+        → Next left u items (changed_place (Item u) (Named u y.key) y.value (carried rows (item_expects schema declared) y.value) ∷ [])
     change_next left u items x y b f n true t = rw t (put_named u y.key y.value items, ap (λ v. Items home (put_named u y.key v items)) (carries y.value), put_step left items u y b n)
     change_next left u items x y b f n false t = rw t (put_value u y.value items, ap (λ v. Items home (put_value u v items)) (carries y.value), revalue_step left items u x y b f n)
 

@@ -16,7 +16,7 @@ use Rattle.state_model.specs.declared.row.MapItem.{MapItem}
 use Rattle.state_model.specs.declared.row.SetItem.{SetItem}
 use Rattle.state_model.specs.Values.{held_by}
 use Rattle.state_model.specs.Rows.{held_in, emptied}
-use Rattle.state_model.specs.Places.{field_wants, item_wants, is_filtered, same_kind}
+use Rattle.state_model.specs.Places.{field_expects, item_expects, is_filtered, same_kind}
 use Rattle.state_model.specs.Reached.{is_among}
 use Rattle.wire_model.specs.declared.op.OpKey.TheVariants.{Field, Item, Named}
 use Rattle.wire_model.specs.Edits.{Clear}
@@ -36,14 +36,14 @@ among_new old new k h = let parts = among_with old new k in grind (arith, nat_te
 -- the operations on an instance name only what its new fields hold
 fields_name : (schema : Schema) (rows : List RowEntry) (class : ℕ) (old new : List FieldValue) (m : ℕ) → is_among m (named_in (field_edits schema rows class old new)) ≡ true → values_hold m (map (λ (f : FieldValue). f.value) new) ≡ true
 fields_name schema rows class old new m h =
-    let some = places_name (λ i. Field i) (λ i. Field i) rows (field_wants schema class) (field_value old) (field_value new) (either_number (map (λ (f : FieldValue). f.field) old) (map (λ (f : FieldValue). f.field) new)) m h in
+    let some = places_name (λ i. Field i) (λ i. Field i) rows (field_expects schema class) (field_value old) (field_value new) (either_number (map (λ (f : FieldValue). f.field) old) (map (λ (f : FieldValue). f.field) new)) m h in
     found_held (λ (f : FieldValue). f.field) (λ (f : FieldValue). f.value) new some.0 m some.1
 
 -- they name what the new fields hold and the old ones don't
 fields_named : (schema : Schema) (rows : List RowEntry) (class : ℕ) (old new : List FieldValue) (m : ℕ) → RisesFrom (λ (f : FieldValue). f.field) 0 new → values_hold m (map (λ (f : FieldValue). f.value) new) ≡ true → values_hold m (map (λ (f : FieldValue). f.value) old) ≡ false → is_among m (named_in (field_edits schema rows class old new)) ≡ true
 fields_named schema rows class old new m r h g =
     let found = held_found (λ (f : FieldValue). f.field) (λ (f : FieldValue). f.value) 0 new m r h in
-    places_named (λ i. Field i) (λ i. Field i) rows (field_wants schema class) (field_value old) (field_value new) (either_number (map (λ (f : FieldValue). f.field) old) (map (λ (f : FieldValue). f.field) new)) found.0 m
+    places_named (λ i. Field i) (λ i. Field i) rows (field_expects schema class) (field_value old) (field_value new) (either_number (map (λ (f : FieldValue). f.field) old) (map (λ (f : FieldValue). f.field) new)) found.0 m
     (among_new (map (λ (f : FieldValue). f.field) old) (map (λ (f : FieldValue). f.field) new) found.0 found.1) found.2
     (found_unheld (λ (f : FieldValue). f.field) (λ (f : FieldValue). f.value) old found.0 m g)
 
@@ -52,14 +52,14 @@ fields_named schema rows class old new m r h g =
 -- the operations on a map name only what its new items hold
 items_name : (schema : Schema) (rows : List RowEntry) (home : Home) (old new : List MapItem) (m : ℕ) → is_among m (named_in (map_edits schema rows home old new)) ≡ true → values_hold m (map (λ (i : MapItem). i.value) new) ≡ true
 items_name schema rows home old new m h =
-    let some = places_name (λ n. Item n) (λ n. Named n (item_key (map_item new n))) rows (λ n. item_wants schema home) (λ n. item_value (map_item old n)) (λ n. item_value (map_item new n)) (either_number (map (λ (i : MapItem). i.number) old) (map (λ (i : MapItem). i.number) new)) m h in
+    let some = places_name (λ n. Item n) (λ n. Named n (item_key (map_item new n))) rows (λ n. item_expects schema home) (λ n. item_value (map_item old n)) (λ n. item_value (map_item new n)) (either_number (map (λ (i : MapItem). i.number) old) (map (λ (i : MapItem). i.number) new)) m h in
     found_held (λ (i : MapItem). i.number) (λ (i : MapItem). i.value) new some.0 m some.1
 
 -- they name what the new items hold and the old ones don't
 items_named : (schema : Schema) (rows : List RowEntry) (home : Home) (old new : List MapItem) (m : ℕ) → RisesFrom (λ (i : MapItem). i.number) 0 new → values_hold m (map (λ (i : MapItem). i.value) new) ≡ true → values_hold m (map (λ (i : MapItem). i.value) old) ≡ false → is_among m (named_in (map_edits schema rows home old new)) ≡ true
 items_named schema rows home old new m r h g =
     let found = held_found (λ (i : MapItem). i.number) (λ (i : MapItem). i.value) 0 new m r h in
-    places_named (λ n. Item n) (λ n. Named n (item_key (map_item new n))) rows (λ n. item_wants schema home) (λ n. item_value (map_item old n)) (λ n. item_value (map_item new n)) (either_number (map (λ (i : MapItem). i.number) old) (map (λ (i : MapItem). i.number) new)) found.0 m
+    places_named (λ n. Item n) (λ n. Named n (item_key (map_item new n))) rows (λ n. item_expects schema home) (λ n. item_value (map_item old n)) (λ n. item_value (map_item new n)) (either_number (map (λ (i : MapItem). i.number) old) (map (λ (i : MapItem). i.number) new)) found.0 m
     (among_new (map (λ (i : MapItem). i.number) old) (map (λ (i : MapItem). i.number) new) found.0 found.1) found.2
     (found_unheld (λ (i : MapItem). i.number) (λ (i : MapItem). i.value) old found.0 m g)
 
@@ -68,14 +68,14 @@ items_named schema rows home old new m r h g =
 -- the operations on a set name only what its new items hold
 elements_name : (schema : Schema) (rows : List RowEntry) (home : Home) (old new : List SetItem) (m : ℕ) → is_among m (named_in (set_edits schema rows home old new)) ≡ true → values_hold m (map (λ (i : SetItem). i.value) new) ≡ true
 elements_name schema rows home old new m h =
-    let some = places_name (λ n. Item n) (λ n. Item n) rows (λ n. item_wants schema home) (set_value old) (set_value new) (either_number (map (λ (i : SetItem). i.number) old) (map (λ (i : SetItem). i.number) new)) m h in
+    let some = places_name (λ n. Item n) (λ n. Item n) rows (λ n. item_expects schema home) (set_value old) (set_value new) (either_number (map (λ (i : SetItem). i.number) old) (map (λ (i : SetItem). i.number) new)) m h in
     found_held (λ (i : SetItem). i.number) (λ (i : SetItem). i.value) new some.0 m some.1
 
 -- they name what the new items hold and the old ones don't
 elements_named : (schema : Schema) (rows : List RowEntry) (home : Home) (old new : List SetItem) (m : ℕ) → RisesFrom (λ (i : SetItem). i.number) 0 new → values_hold m (map (λ (i : SetItem). i.value) new) ≡ true → values_hold m (map (λ (i : SetItem). i.value) old) ≡ false → is_among m (named_in (set_edits schema rows home old new)) ≡ true
 elements_named schema rows home old new m r h g =
     let found = held_found (λ (i : SetItem). i.number) (λ (i : SetItem). i.value) 0 new m r h in
-    places_named (λ n. Item n) (λ n. Item n) rows (λ n. item_wants schema home) (set_value old) (set_value new) (either_number (map (λ (i : SetItem). i.number) old) (map (λ (i : SetItem). i.number) new)) found.0 m
+    places_named (λ n. Item n) (λ n. Item n) rows (λ n. item_expects schema home) (set_value old) (set_value new) (either_number (map (λ (i : SetItem). i.number) old) (map (λ (i : SetItem). i.number) new)) found.0 m
     (among_new (map (λ (i : SetItem). i.number) old) (map (λ (i : SetItem). i.number) new) found.0 found.1) found.2
     (found_unheld (λ (i : SetItem). i.number) (λ (i : SetItem). i.value) old found.0 m g)
 
@@ -84,7 +84,7 @@ elements_named schema rows home old new m r h g =
 -- the operations on positions name only what the new values hold
 slots_name : (schema : Schema) (rows : List RowEntry) (home : Home) (old new : List Value) (m : ℕ) → is_among m (named_in (slot_edits schema rows home old new)) ≡ true → values_hold m new ≡ true
 slots_name schema rows home old new m h =
-    let some = places_name (λ at. Item at) (λ at. Item at) rows (λ at. item_wants schema home) (slice_get old) (slice_get new) (range_with_len 0 (max (length old) (length new))) m h in
+    let some = places_name (λ at. Item at) (λ at. Item at) rows (λ at. item_expects schema home) (slice_get old) (slice_get new) (range_with_len 0 (max (length old) (length new))) m h in
     slot_held new some.0 m some.1
 
 -- they name what the new values hold and the old ones don't
@@ -92,7 +92,7 @@ slots_named : (schema : Schema) (rows : List RowEntry) (home : Home) (old new : 
 slots_named schema rows home old new m h g =
     let found = held_slot new m h in
     let within = found.1 in
-    places_named (λ at. Item at) (λ at. Item at) rows (λ at. item_wants schema home) (slice_get old) (slice_get new) (range_with_len 0 (max (length old) (length new))) found.0 m
+    places_named (λ at. Item at) (λ at. Item at) rows (λ at. item_expects schema home) (slice_get old) (slice_get new) (range_with_len 0 (max (length old) (length new))) found.0 m
     (among-range 0 (max (length old) (length new)) found.0 (omega arith) (omega arith)) found.2
     (slot_unheld old found.0 m g)
 
@@ -101,7 +101,7 @@ slots_named schema rows home old new m h g =
 -- the operations that add instances name what these hold
 pushes_name : (schema : Schema) (rows : List RowEntry) (home : Home) (vs : List Value) → named_in (map (push_edit schema rows home) vs) ≡ flat_map held_by vs
 pushes_name schema rows home [] = refl
-pushes_name schema rows home (v ∷ vs) = rw (carried_numbers rows (item_wants schema home) v, pushes_name schema rows home vs) refl
+pushes_name schema rows home (v ∷ vs) = rw (carried_numbers rows (item_expects schema home) v, pushes_name schema rows home vs) refl
 
 -- the operations that delete instances name nothing
 drops_name : (vs : List Value) → named_in (flat_map drop_edit vs) ≡ []

@@ -12,8 +12,8 @@ use Rattle.state_model.specs.declared.row.RowEntry.{RowEntry}
 use Rattle.state_model.specs.declared.row.FieldValue.{FieldValue}
 use Rattle.state_model.specs.declared.row.SetItem.{SetItem}
 use Rattle.state_model.specs.Values.{same_value, is_link}
-use Rattle.state_model.specs.declared.place.Wanted.{Wanted}
-use Rattle.state_model.specs.Places.{field_wants, item_wants}
+use Rattle.state_model.specs.declared.place.Expected.{Expected}
+use Rattle.state_model.specs.Places.{field_expects, item_expects}
 use Rattle.state_model.specs.Reached.{is_among}
 use Rattle.wire_model.specs.declared.op.OpKey.{OpKey}
 use Rattle.wire_model.specs.declared.op.OpKey.TheVariants.{Field, Item}
@@ -35,7 +35,7 @@ module _ {E : Type 0} (key : E → ℕ) (value : E → Value) (made : ℕ → Va
     deleted : (n : ℕ) (es : List E) → effect (Delete (place n)) (wrap es) ≡ wrap (remove key n es)
 
 module _ {E : Type 0} (key : E → ℕ) (value : E → Value) (made : ℕ → Value → E) (wrap : List E → Body) (place : ℕ → OpKey) (laws : PlainPlaces key value made wrap place)
-    (rows : List RowEntry) (wanted : ℕ → Option Wanted) (old new : List E) where
+    (rows : List RowEntry) (expected : ℕ → Option Expected) (old new : List E) where
   -- the list after one number
   abbrev Next : ℕ → List E → List Edit → Type 0
   Next u es edits = (next : List E) × (fold (λ body e. effect e body) (wrap es) edits ≡ wrap next) × Stepped key old new u es next
@@ -83,39 +83,39 @@ module _ {E : Type 0} (key : E → ℕ) (value : E → Value) (made : ℕ → Va
 
   -- an operation that puts what it carries
   put_next : (u : ℕ) (es : List E) (y : E) (e : Edit) → RisesFrom key 0 es → find key u new ≡ Some y
-      → effect e (wrap es) ≡ wrap (put key (made u (carried_value (carried rows (wanted u) (value y)))) es) → Next u es (e ∷ [])
-  put_next u es y e r h k = (put key (made u (value y)) es, k ∙ ap (λ v. wrap (put key (made u v) es)) (carried_is rows (wanted u) (value y)), put_step u es y r h)
+      → effect e (wrap es) ≡ wrap (put key (made u (carried_value (carried rows (expected u) (value y)))) es) → Next u es (e ∷ [])
+  put_next u es y e r h k = (put key (made u (value y)) es, k ∙ ap (λ v. wrap (put key (made u v) es)) (carried_is rows (expected u) (value y)), put_step u es y r h)
 
   -- the operation on a place that has another value
   change_next : (u : ℕ) (es : List E) (y : E) → RisesFrom key 0 es → find key u new ≡ Some y → (link : Bool) → is_link (value y) ≡ link
-      → Next u es (changed_place (place u) (place u) (value y) (carried rows (wanted u) (value y)) ∷ [])
-  change_next u es y r h true t = rw t (put_next u es y (DeleteAdd (place u) (carried rows (wanted u) (value y))) r h (laws.changed u (carried rows (wanted u) (value y)) es))
-  change_next u es y r h false t = rw t (put_next u es y (Replace (place u) (carried rows (wanted u) (value y))) r h (laws.replaced u (carried rows (wanted u) (value y)) es))
+      → Next u es (changed_place (place u) (place u) (value y) (carried rows (expected u) (value y)) ∷ [])
+  change_next u es y r h true t = rw t (put_next u es y (DeleteAdd (place u) (carried rows (expected u) (value y))) r h (laws.changed u (carried rows (expected u) (value y)) es))
+  change_next u es y r h false t = rw t (put_next u es y (Replace (place u) (carried rows (expected u) (value y))) r h (laws.replaced u (carried rows (expected u) (value y)) es))
 
   -- a number that both have
   both_next : (u : ℕ) (es : List E) (x y : E) → RisesFrom key 0 es → Waits key old new u es → find key u old ≡ Some x → find key u new ≡ Some y → (same : Bool) → same_value (value x) (value y) ≡ same
-      → Next u es (place_edit (place u) (place u) rows (wanted u) (Some (value x)) (Some (value y)))
+      → Next u es (place_edit (place u) (place u) rows (expected u) (Some (value x)) (Some (value y)))
   both_next u es x y r w o n true t = rw t (es, refl, same_step u es r (waits_same u es x y w o n (same_item u x y o n t)))
   both_next u es x y r w o n false t = rw t (change_next u es y r n (is_link (value y)) refl)
 
   -- the operations at a number, by whether it is in old and in new
   next_at : (u : ℕ) (es : List E) (o n : Option E) → RisesFrom key 0 es → Waits key old new u es → find key u old ≡ o → find key u new ≡ n
-      → Next u es (place_edit (place u) (place u) rows (wanted u) (option_map value o) (option_map value n))
+      → Next u es (place_edit (place u) (place u) rows (expected u) (option_map value o) (option_map value n))
   next_at u es None None r w o n = (es, refl, same_step u es r (waits_none u es w o n))
-  next_at u es None (Some y) r w o n = put_next u es y (Add (place u) (carried rows (wanted u) (value y))) r n (laws.added u (carried rows (wanted u) (value y)) es)
+  next_at u es None (Some y) r w o n = put_next u es y (Add (place u) (carried rows (expected u) (value y))) r n (laws.added u (carried rows (expected u) (value y)) es)
   next_at u es (Some x) None r w o n = (remove key u es, laws.deleted u es, remove_step u es r n)
   next_at u es (Some x) (Some y) r w o n = both_next u es x y r w o n (same_value (value x) (value y)) refl
 
   -- the operations at the first number that is left
   step : (u : ℕ) (us : List ℕ) (es : List E) → is_among u us ≡ false → Between key old new (u ∷ us) es
-      → Next u es (place_edit (place u) (place u) rows (wanted u) (option_map value (find key u old)) (option_map value (find key u new)))
+      → Next u es (place_edit (place u) (place u) rows (expected u) (option_map value (find key u old)) (option_map value (find key u new)))
   step u us es apart b = next_at u es (find key u old) (find key u new) b.rises (b.waits u (grind (arith, nat_tests))) refl refl
 
   -- the operations lead from the old places to the new ones
   plain_run : RisesFrom key 0 old → RisesFrom key 0 new
-      → fold (λ body e. effect e body) (wrap old) (flat_map (λ u. place_edit (place u) (place u) rows (wanted u) (option_map value (find key u old)) (option_map value (find key u new))) (either_number (map key old) (map key new)))
+      → fold (λ body e. effect e body) (wrap old) (flat_map (λ u. place_edit (place u) (place u) rows (expected u) (option_map value (find key u old)) (option_map value (find key u new))) (either_number (map key old) (map key new)))
       ≡ wrap new
-  plain_run r s = whole_run key old new (λ body e. effect e body) wrap (λ u. place_edit (place u) (place u) rows (wanted u) (option_map value (find key u old)) (option_map value (find key u new))) step r s
+  plain_run r s = whole_run key old new (λ body e. effect e body) wrap (λ u. place_edit (place u) (place u) rows (expected u) (option_map value (find key u old)) (option_map value (find key u new))) step r s
 
 -- the fields of an instance
 field_places : (class : ℕ) → PlainPlaces (λ (f : FieldValue). f.field) (λ (f : FieldValue). f.value) (λ n v. let f : FieldValue = record { field = n; value = v } in f) (Fields class) Field
@@ -132,7 +132,7 @@ field_places class = record {
 pub field_run : (schema : Schema) (rows : List RowEntry) (class declared : ℕ) (old new : List FieldValue) → RisesFrom (λ (f : FieldValue). f.field) 0 old → RisesFrom (λ (f : FieldValue). f.field) 0 new
     → fold (λ body e. effect e body) (Fields class old) (field_edits schema rows declared old new) ≡ Fields class new
 field_run schema rows class declared old new r s = plain_run (λ (f : FieldValue). f.field) (λ (f : FieldValue). f.value) (λ n v. let f : FieldValue = record { field = n; value = v } in f) (Fields class) Field (field_places class)
-    rows (field_wants schema declared) old new r s
+    rows (field_expects schema declared) old new r s
 
 -- the items of a set
 set_places : (home : Home) → PlainPlaces (λ (i : SetItem). i.number) (λ (i : SetItem). i.value) (λ n v. let i : SetItem = record { number = n; value = v } in i) (Elements home) Item
@@ -149,4 +149,4 @@ set_places home = record {
 pub set_run : (schema : Schema) (rows : List RowEntry) (home declared : Home) (old new : List SetItem) → RisesFrom (λ (i : SetItem). i.number) 0 old → RisesFrom (λ (i : SetItem). i.number) 0 new
     → fold (λ body e. effect e body) (Elements home old) (set_edits schema rows declared old new) ≡ Elements home new
 set_run schema rows home declared old new r s = plain_run (λ (i : SetItem). i.number) (λ (i : SetItem). i.value) (λ n v. let i : SetItem = record { number = n; value = v } in i) (Elements home) Item (set_places home)
-    rows (λ n. item_wants schema declared) old new r s
+    rows (λ n. item_expects schema declared) old new r s

@@ -11,8 +11,8 @@ use Rattle.schema_model.specs.declared.place.Home.{Home}
 use Rattle.state_model.specs.declared.row.RowEntry.{RowEntry}
 use Rattle.state_model.specs.declared.row.Row.TheVariants.{Array}
 use Rattle.state_model.specs.Values.{same_value, is_link}
-use Rattle.state_model.specs.declared.place.Wanted.{Wanted}
-use Rattle.state_model.specs.Places.{item_wants}
+use Rattle.state_model.specs.declared.place.Expected.{Expected}
+use Rattle.state_model.specs.Places.{item_expects}
 use Rattle.wire_model.specs.declared.op.OpKey.TheVariants.{Item}
 use Rattle.wire_model.specs.Edits.{Edit}
 use Rattle.wire_model.specs.Effect.{Body, Slots, effect, closed, closed_slots, put_slot, add_slot, empty_slot}
@@ -83,16 +83,16 @@ add_last (d ∷ done) v = let later : (length (d ∷ done) == 0) ≡ false = gri
 empty_at : (done rest : List (Option Value)) (s : Option Value) → empty_slot (length done) (done ++ s ∷ rest) ≡ done ++ None ∷ rest
 empty_at done rest s = set-append_seam done s rest None
 
-module _ (home : Home) (rows : List RowEntry) (wanted : Option Wanted) where
+module _ (home : Home) (rows : List RowEntry) (expected : Option Expected) where
   -- the slots after the operations at a position
   abbrev Leads : ℕ → Option Value → Option Value → List (Option Value) → List (Option Value) → Type 0
-  Leads p o n slots next = fold (λ body e. effect e body) (Slots home slots) (place_edit (Item p) (Item p) rows wanted o n) ≡ Slots home next
+  Leads p o n slots next = fold (λ body e. effect e body) (Slots home slots) (place_edit (Item p) (Item p) rows expected o n) ≡ Slots home next
 
   -- the operation on a slot that has another value
   change_leads : (p : ℕ) (done rest : List (Option Value)) (s : Option Value) (v : Value) → length done ≡ p → (link : Bool) → is_link v ≡ link
-      → fold (λ body e. effect e body) (Slots home (done ++ s ∷ rest)) (changed_place (Item p) (Item p) v (carried rows wanted v) ∷ []) ≡ Slots home (done ++ Some v ∷ rest)
-  change_leads p done rest s v l true t = rw (t, ← l) (ap (λ w. Slots home (put_slot (length done) w (done ++ s ∷ rest))) (carried_is rows wanted v) ∙ ap (Slots home) (put_at done rest s v))
-  change_leads p done rest s v l false t = rw (t, ← l) (ap (λ w. Slots home (put_slot (length done) w (done ++ s ∷ rest))) (carried_is rows wanted v) ∙ ap (Slots home) (put_at done rest s v))
+      → fold (λ body e. effect e body) (Slots home (done ++ s ∷ rest)) (changed_place (Item p) (Item p) v (carried rows expected v) ∷ []) ≡ Slots home (done ++ Some v ∷ rest)
+  change_leads p done rest s v l true t = rw (t, ← l) (ap (λ w. Slots home (put_slot (length done) w (done ++ s ∷ rest))) (carried_is rows expected v) ∙ ap (Slots home) (put_at done rest s v))
+  change_leads p done rest s v l false t = rw (t, ← l) (ap (λ w. Slots home (put_slot (length done) w (done ++ s ∷ rest))) (carried_is rows expected v) ∙ ap (Slots home) (put_at done rest s v))
 
   -- in both: the slot has the new value
   both_lead : (p : ℕ) (done rest : List (Option Value)) (u v : Value) → length done ≡ p → (same : Bool) → same_value u v ≡ same → Leads p (Some u) (Some v) (done ++ Some u ∷ rest) (done ++ Some v ∷ rest)
@@ -105,12 +105,12 @@ module _ (home : Home) (rows : List RowEntry) (wanted : Option Wanted) where
 
   -- in new alone: the value goes last
   new_leads : (p : ℕ) (done : List (Option Value)) (v : Value) → length done ≡ p → Leads p None (Some v) done (done ++ Some v ∷ [])
-  new_leads p done v l = rw (← l) (ap (λ w. Slots home (add_slot (length done) w done)) (carried_is rows wanted v) ∙ ap (Slots home) (add_last done v))
+  new_leads p done v l = rw (← l) (ap (λ w. Slots home (add_slot (length done) w done)) (carried_is rows expected v) ∙ ap (Slots home) (add_last done v))
 
   module _ (old new : List Value) where
     -- the operations at a position
     abbrev edits_at : ℕ → List Edit
-    edits_at p = place_edit (Item p) (Item p) rows wanted (slice_get old p) (slice_get new p)
+    edits_at p = place_edit (Item p) (Item p) rows expected (slice_get old p) (slice_get new p)
 
     -- the slots after the operations on so many positions, from one on
     abbrev after : List (Option Value) → ℕ → ℕ → Body
@@ -162,5 +162,5 @@ module _ (home : Home) (rows : List RowEntry) (wanted : Option Wanted) where
 pub slot_run : (schema : Schema) (rows : List RowEntry) (home declared : Home) (old new : List Value)
     → closed (fold (λ body e. effect e body) (Slots home (map Some old)) (slot_edits schema rows declared old new)) ≡ Array home new
 slot_run schema rows home declared old new =
-    let c = positions_run home rows (item_wants schema declared) old new (max (length old) (length new)) 0 [] old new refl refl refl refl in
+    let c = positions_run home rows (item_expects schema declared) old new (max (length old) (length new)) 0 [] old new refl refl refl refl in
     ap closed c.1 ∙ ap (Array home) c.2

@@ -5,17 +5,17 @@ use Rattle.schema_model.specs.declared.value.Value.{Value}
 use Rattle.schema_model.specs.declared.value.Value.TheVariants.{Whole, Str, Truth, Link}
 use Rattle.state_model.specs.declared.row.RowEntry.{RowEntry}
 use Rattle.state_model.specs.Values.{same_value}
-use Rattle.state_model.specs.declared.place.Wanted.{Wanted}
+use Rattle.state_model.specs.declared.place.Expected.{Expected}
 use Rattle.wire_model.specs.Edits.{carried_value}
 use Rattle.wire_model.specs.Patch.{carried, same_values}
 use Rattle.state_laws.proofs.SameValues.{same_is}
 
 -- an operation carries the value that it is made for
-pub carried_is : (rows : List RowEntry) (wanted : Option Wanted) (v : Value) → carried_value (carried rows wanted v) ≡ v
-carried_is rows wanted (Whole a) = refl
-carried_is rows wanted (Str a) = refl
-carried_is rows wanted (Truth a) = refl
-carried_is rows wanted (Link a) = refl
+pub carried_is : (rows : List RowEntry) (expected : Option Expected) (v : Value) → carried_value (carried rows expected v) ≡ v
+carried_is rows expected (Whole a) = refl
+carried_is rows expected (Str a) = refl
+carried_is rows expected (Truth a) = refl
+carried_is rows expected (Link a) = refl
 
 -- lists that the test takes for equal are equal
 pub same_values_is : (us vs : List Value) → same_values us vs ≡ true → us ≡ vs

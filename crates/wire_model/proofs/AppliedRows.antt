@@ -198,7 +198,7 @@ a_shown_box_keeps_its_list : decoded ex.boxes (0x81 ∷ 0x01 ∷ 0xd5 ∷ 0x01 �
 unfolding reading
 a_shown_box_keeps_its_list = refl
 
--- the first item is inserted in front, the second one replaces what stood first
+-- the first item is inserted before it, the second one replaces what stood first
 without_the_clear_the_list_would_grow : decoded ex.boxes (0x81 ∷ 0x01 ∷ 0xd5 ∷ 0x01 ∷ 0xff ∷ 0x01 ∷ 0x80 ∷ 0x02 ∷ 0xff ∷ 0x02 ∷ 0x80 ∷ 0x00 ∷ 0x01
     ∷ 0x80 ∷ 0x01 ∷ 0x02 ∷ []) (ex.a_box_in (ex.field 0 (Link 1) ∷ []))
     ≡ Ok (both_boxes (1 ∷ 2 ∷ 2 ∷ []))

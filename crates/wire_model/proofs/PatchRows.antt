@@ -8,16 +8,16 @@ use Rattle.schema_model.specs.declared.class.Shape.TheVariants as shape
 use Rattle.schema_model.specs.declared.scalar.ScalarKind.TheVariants as kind
 use Rattle.state_model.specs.declared.row.Row.{Row}
 use Rattle.state_model.specs.declared.row.Row.TheVariants.{Struct, Map, Array, Set}
-use Rattle.state_model.specs.declared.place.Wanted.TheVariants.{Item as AnItem, Collection as ACollection}
+use Rattle.state_model.specs.declared.place.Expected.TheVariants.{Item as AnItem, Collection as ACollection}
 use Rattle.state_model.proofs.Examples as ex
 use Rattle.state_model.proofs.Zoo as z
 use Rattle.wire_model.specs.declared.op.OpKey.TheVariants.{Field, Item, Named}
 use Rattle.wire_model.specs.Edits.{AWhole, AText, ATruth, Carried, Plain, Linked, Edit, Add, Replace, DeleteAdd, Delete, Clear, AddByRef, DeleteByRef}
-use Rattle.wire_model.specs.Patch.{kind_wanted, kind_in, carried, changed_place, place_edit, field_value, map_item, item_value, item_key, set_value, either_number, field_edits, map_edits, set_edits, slot_edits, stands_in, kept_of, gone_of, same_values, drop_edit, push_edit, ref_edits, array_edits, row_edits, whole_start, whole_edits}
+use Rattle.wire_model.specs.Patch.{kind_expected, kind_in, carried, changed_place, place_edit, field_value, map_item, item_value, item_key, set_value, either_number, field_edits, map_edits, set_edits, slot_edits, stands_in, kept_of, gone_of, same_values, drop_edit, push_edit, ref_edits, array_edits, row_edits, whole_start, whole_edits}
 
 -- ---- carried values
 
-only_a_scalar_place_has_a_kind : map kind_wanted (Some (AnItem (item.Scalar kind.U8)) ∷ Some (AnItem (item.Class 1))
+only_a_scalar_place_has_a_kind : map kind_expected (Some (AnItem (item.Scalar kind.U8)) ∷ Some (AnItem (item.Class 1))
     ∷ Some (ACollection (ex.home 0 0)) ∷ None ∷ [])
     ≡ kind.U8 ∷ kind.Number ∷ kind.Number ∷ kind.Number ∷ []
 only_a_scalar_place_has_a_kind = refl

@@ -6,7 +6,7 @@ use Rattle.schema_model.specs.declared.class.Item.TheVariants as item
 use Rattle.state_model.specs.declared.row.Row.TheVariants as row
 use Rattle.state_model.specs.declared.row.RowEntry.{RowEntry}
 use Rattle.state_model.specs.Rows.{kinds_of}
-use Rattle.state_model.specs.declared.place.Wanted.TheVariants.{Item as AnItem, Collection as ACollection}
+use Rattle.state_model.specs.declared.place.Expected.TheVariants.{Item as AnItem, Collection as ACollection}
 use Rattle.state_model.proofs.Examples as ex
 use Rattle.state_model.proofs.Zoo as z
 use Rattle.wire_model.specs.declared.op.OpKey.TheVariants.{Field, Item, Named}
@@ -16,7 +16,7 @@ use Rattle.wire_model.specs.declared.op.Step.TheVariants.{Turn, Do}
 use Rattle.wire_model.specs.declared.fault.OpFault.{OpFault}
 use Rattle.wire_model.specs.declared.fault.OpFault.TheVariants as fault
 use Rattle.wire_model.specs.Edits.{Carried, Plain, Linked, AWhole, AText, ATruth, Edit, Add, Replace, DeleteAdd, Delete, Clear, AddByRef, DeleteByRef}
-use Rattle.wire_model.specs.Grammar.{mark_fits, has_mark, link_value, with_value, has_add_bit, is_map, is_array_row, ref_step, is_unsupported, is_item_code, is_ref_code, scalar_of, declared_class, new_instance, new_collection, resolved_value, wants_at, resolved, known_after, PlacedEdit, ReadBlock, Readings, Progress, after_step, advanced, reading_start, read_blocks}
+use Rattle.wire_model.specs.Grammar.{mark_fits, has_mark, link_value, with_value, has_add_bit, is_map, is_array_row, ref_step, is_unsupported, is_item_code, is_ref_code, scalar_of, declared_class, new_instance, new_collection, resolved_value, expects_at, resolved, known_after, PlacedEdit, ReadBlock, Readings, Progress, after_step, advanced, reading_start, read_blocks}
 use Rattle.wire_model.proofs.Opened.{reading}
 
 abbrev known : List RowEntry
@@ -82,15 +82,15 @@ a_new_instance_is_of_the_marked_class_or_the_declared_one : map (λ m. new_insta
     ≡ row.Struct 2 [] ∷ row.Struct 1 [] ∷ []
 a_new_instance_is_of_the_marked_class_or_the_declared_one = refl
 
-a_new_collection_has_the_home_that_is_wanted : map (λ h. new_collection z.zoo (Some (ACollection h))) (ex.home 0 0 ∷ ex.home 0 1 ∷ ex.home 0 2
+a_new_collection_has_the_home_that_is_expected : map (λ h. new_collection z.zoo (Some (ACollection h))) (ex.home 0 0 ∷ ex.home 0 1 ∷ ex.home 0 2
     ∷ ex.home 2 1 ∷ [])
     ≡ row.Map (ex.home 0 0) [] ∷ row.Array (ex.home 0 1) [] ∷ row.Set (ex.home 0 2) [] ∷ row.Array (ex.home 2 1) [] ∷ []
-a_new_collection_has_the_home_that_is_wanted = refl
+a_new_collection_has_the_home_that_is_expected = refl
 
 -- what no bytes give
-a_new_collection_is_wanted_by_a_place_of_collections : map (new_collection z.zoo) (Some (AnItem (item.Class 2)) ∷ None ∷ [])
+a_new_collection_is_expected_by_a_place_of_collections : map (new_collection z.zoo) (Some (AnItem (item.Class 2)) ∷ None ∷ [])
     ≡ row.Struct 0 [] ∷ row.Struct 0 [] ∷ []
-a_new_collection_is_wanted_by_a_place_of_collections = refl
+a_new_collection_is_expected_by_a_place_of_collections = refl
 
 -- a known row keeps its kind, an unknown one gets the mark's or the declared one
 a_link_leads_to_a_row_of_its_kind : map (resolved_value z.zoo known (Some (AnItem (item.Class 1)))) (carried.Struct 4 (Some 2) ∷ carried.Struct 4 None
@@ -109,12 +109,12 @@ a_scalar_leads_nowhere = refl
 
 -- ---- what an operation means
 
-a_key_wants_what_its_place_is_declared_to_hold :
-    wants_at z.zoo z.gate (Field 3) ∷ wants_at z.zoo z.gate (Field 6) ∷ wants_at z.zoo z.gate (Item 3) ∷ wants_at z.zoo z.pets (Item 3)
-    ∷ wants_at z.zoo z.pets (Named 3 []) ∷ wants_at z.zoo z.toys (Item 0) ∷ wants_at z.zoo z.signs (Field 0) ∷ []
+a_key_expects_what_its_place_is_declared_to_hold :
+    expects_at z.zoo z.gate (Field 3) ∷ expects_at z.zoo z.gate (Field 6) ∷ expects_at z.zoo z.gate (Item 3) ∷ expects_at z.zoo z.pets (Item 3)
+    ∷ expects_at z.zoo z.pets (Named 3 []) ∷ expects_at z.zoo z.toys (Item 0) ∷ expects_at z.zoo z.signs (Field 0) ∷ []
     ≡ Some (AnItem (item.Class 1)) ∷ None ∷ None ∷ Some (AnItem (item.Class 1)) ∷ Some (AnItem (item.Class 1))
     ∷ Some (AnItem (item.Scalar kind.Number)) ∷ Some (AnItem (item.Scalar kind.Str)) ∷ []
-a_key_wants_what_its_place_is_declared_to_hold = refl
+a_key_expects_what_its_place_is_declared_to_hold = refl
 
 operations_on_an_instance_are_resolved : map (resolved z.zoo known z.gate)
     (op.Add (Field 3) (carried.Struct 9 None) ∷ op.Replace (Field 3) (carried.Struct 5 None) ∷ op.Replace (Field 2) (carried.Coll 9)

@@ -81,7 +81,7 @@ is_present_at slots at = is_some (option_map_or (λ s. s) (slice_get slots at) N
 abbrev pub put_slot : ℕ → Value → List (Option Value) → List (Option Value)
 put_slot at v slots = if nat_lt at (length slots) then set slots at (Some v) else if at == length slots then slots ++ Some v ∷ [] else slots
 
--- at 0, where a value is present there, it is inserted in front
+-- at 0, where a value is present there, it is inserted before it
 abbrev pub add_slot : ℕ → Value → List (Option Value) → List (Option Value)
 add_slot at v slots = if (at == 0) && is_present_at slots 0 then Some v ∷ slots else put_slot at v slots
 

@@ -16,9 +16,9 @@ use Rattle.state_model.specs.declared.row.Row.{Row}
 use Rattle.state_model.specs.declared.row.Row.TheVariants as row
 use Rattle.state_model.specs.declared.row.RowEntry.{RowEntry}
 use Rattle.state_model.specs.Rows.{row_at, kinds_of, put_row}
-use Rattle.state_model.specs.declared.place.Wanted.{Wanted}
-use Rattle.state_model.specs.declared.place.Wanted.TheVariants.{Item as AnItem, Collection as ACollection}
-use Rattle.state_model.specs.Places.{field_wants, item_wants, empty_collection, holds_instances, row_class, row_home}
+use Rattle.state_model.specs.declared.place.Expected.{Expected}
+use Rattle.state_model.specs.declared.place.Expected.TheVariants.{Item as AnItem, Collection as ACollection}
+use Rattle.state_model.specs.Places.{field_expects, item_expects, empty_collection, holds_instances, row_class, row_home}
 use Rattle.state_model.specs.Reached.{times}
 use Rattle.state_model.specs.Sound.{is_instance_of, is_collection_of}
 use Rattle.wire_model.specs.declared.op.OpKey.{OpKey}
@@ -97,13 +97,13 @@ scalar_carried kind (Ok r) = Ok (carried.Scalar kind r.0, r.1)
 scalar_carried kind (Err f) = Err (fault.Scalar f)
 
 -- a link, where the number was read: to an instance of a class, or to a collection of a home
-abbrev pub link_value : Schema → List RowEntry → Bool → List ℕ → ℕ → Wanted → ℕ × ℕ → Result (OpValue × ℕ) OpFault
+abbrev pub link_value : Schema → List RowEntry → Bool → List ℕ → ℕ → Expected → ℕ × ℕ → Result (OpValue × ℕ) OpFault
 link_value schema known adds bytes at (AnItem (item.Class class)) n = instance_value schema class adds bytes at n (row_at known n.0)
 link_value schema known adds bytes at (ACollection home) n = collection_value home at n (row_at known n.0)
 link_value schema known adds bytes at (AnItem (item.Scalar kind)) n = Err (fault.WrongClass at)
 
 -- the value of what a place is declared to hold, and the place after it
-unfoldable pub value_at : Schema → List RowEntry → Bool → List ℕ → ℕ → Wanted → Result (OpValue × ℕ) OpFault
+unfoldable pub value_at : Schema → List RowEntry → Bool → List ℕ → ℕ → Expected → Result (OpValue × ℕ) OpFault
 value_at schema known adds bytes at (AnItem (item.Scalar kind)) = scalar_carried kind (read_scalar bytes at kind)
 value_at schema known adds bytes at (AnItem (item.Class class)) = do
   n ← count_at bytes at
@@ -122,24 +122,24 @@ with_value code key v = if code == 128 then op.Add key v else if code == 192 the
 abbrev pub has_add_bit : ℕ → Bool
 has_add_bit code = (code == 128) || (code == 192)
 
--- an operation with a key and a value of what is wanted
-unfoldable pub keyed_value : Schema → List RowEntry → List ℕ → ℕ → ℕ → OpKey → Wanted → Result (Step × ℕ) OpFault
-keyed_value schema known bytes at code key wanted = do
-  v ← value_at schema known (has_add_bit code) bytes at wanted
+-- an operation with a key and a value of what is expected
+unfoldable pub keyed_value : Schema → List RowEntry → List ℕ → ℕ → ℕ → OpKey → Expected → Result (Step × ℕ) OpFault
+keyed_value schema known bytes at code key expected = do
+  v ← value_at schema known (has_add_bit code) bytes at expected
   Ok (Do (with_value code key v.0), v.1)
 
 -- an operation on an instance: its byte is the code and the field's index
-abbrev pub field_step : Schema → List RowEntry → List ℕ → ℕ → ℕ → ℕ → Option Wanted → Result (Step × ℕ) OpFault
+abbrev pub field_step : Schema → List RowEntry → List ℕ → ℕ → ℕ → ℕ → Option Expected → Result (Step × ℕ) OpFault
 field_step schema known bytes at code index None = Err (fault.UnknownField at)
-field_step schema known bytes at code index (Some wanted) =
+field_step schema known bytes at code index (Some expected) =
     if code == 64 then Ok (Do (op.Delete (Field index)), at + 1)
-    else keyed_value schema known bytes (at + 1) code (Field index) wanted
+    else keyed_value schema known bytes (at + 1) code (Field index) expected
 
 -- the key of a new item of a map
-unfoldable pub named_value : Schema → List RowEntry → List ℕ → ℕ → ℕ → ℕ → Wanted → Result (Step × ℕ) OpFault
-named_value schema known bytes at code n wanted = do
+unfoldable pub named_value : Schema → List RowEntry → List ℕ → ℕ → ℕ → ℕ → Expected → Result (Step × ℕ) OpFault
+named_value schema known bytes at code n expected = do
   key ← as_op_fault (text_at bytes at)
-  keyed_value schema known bytes key.1 code (Named n key.0) wanted
+  keyed_value schema known bytes key.1 code (Named n key.0) expected
 
 -- a row is a map
 abbrev pub is_map : Row → Bool
@@ -152,24 +152,24 @@ is_array_row (row.Array home values) = true
 is_array_row r = false
 
 -- an operation on a collection behind its number
-abbrev pub item_step : Schema → List RowEntry → Row → List ℕ → ℕ → ℕ → Option Wanted → ℕ × ℕ → Result (Step × ℕ) OpFault
+abbrev pub item_step : Schema → List RowEntry → Row → List ℕ → ℕ → ℕ → Option Expected → ℕ × ℕ → Result (Step × ℕ) OpFault
 item_step schema known holder bytes at code None n = Err (fault.UnknownOp at code)
-item_step schema known holder bytes at code (Some wanted) n =
+item_step schema known holder bytes at code (Some expected) n =
     if code == 64 then Ok (Do (op.Delete (Item n.0)), n.1)
-    else if is_map holder && has_add_bit code then named_value schema known bytes n.1 code n.0 wanted
-    else keyed_value schema known bytes n.1 code (Item n.0) wanted
+    else if is_map holder && has_add_bit code then named_value schema known bytes n.1 code n.0 expected
+    else keyed_value schema known bytes n.1 code (Item n.0) expected
 
 -- an instance put by reference, behind the number that is only read
-unfoldable pub by_ref_value : Schema → List RowEntry → List ℕ → ℕ → Wanted → Result (Step × ℕ) OpFault
-by_ref_value schema known bytes at wanted = do
-  v ← value_at schema known true bytes at wanted
+unfoldable pub by_ref_value : Schema → List RowEntry → List ℕ → ℕ → Expected → Result (Step × ℕ) OpFault
+by_ref_value schema known bytes at expected = do
+  v ← value_at schema known true bytes at expected
   Ok (Do (op.AddByRef v.0), v.1)
 
 -- an operation by reference behind its number
-abbrev pub ref_step : Schema → List RowEntry → List ℕ → ℕ → ℕ → Option Wanted → ℕ × ℕ → Result (Step × ℕ) OpFault
+abbrev pub ref_step : Schema → List RowEntry → List ℕ → ℕ → ℕ → Option Expected → ℕ × ℕ → Result (Step × ℕ) OpFault
 ref_step schema known bytes at code None n = Err (fault.UnknownOp at code)
-ref_step schema known bytes at code (Some wanted) n =
-    if code == 33 then Ok (Do (op.DeleteByRef n.0), n.1) else by_ref_value schema known bytes n.1 wanted
+ref_step schema known bytes at code (Some expected) n =
+    if code == 33 then Ok (Do (op.DeleteByRef n.0), n.1) else by_ref_value schema known bytes n.1 expected
 
 -- the byte of an operation that moves or reverses arrays
 abbrev pub is_unsupported : ℕ → Bool
@@ -188,14 +188,14 @@ unfoldable pub collection_step : Schema → List RowEntry → Row → Home → L
 collection_step schema known holder home bytes at code =
     if code == 10 then Ok (Do op.Clear, at + 1)
     else if is_unsupported code then Err (fault.Unsupported at code)
-    else if is_item_code code then (count_at bytes (at + 1) >>= item_step schema known holder bytes at code (item_wants schema home))
-    else if is_ref_code schema holder home code then (count_at bytes (at + 1) >>= ref_step schema known bytes at code (item_wants schema home))
+    else if is_item_code code then (count_at bytes (at + 1) >>= item_step schema known holder bytes at code (item_expects schema home))
+    else if is_ref_code schema holder home code then (count_at bytes (at + 1) >>= ref_step schema known bytes at code (item_expects schema home))
     else Err (fault.UnknownOp at code)
 
 -- an operation on a holder of this kind whose first byte is given
 abbrev pub holder_step : Schema → List RowEntry → Row → List ℕ → ℕ → ℕ → Result (Step × ℕ) OpFault
 holder_step schema known (row.Struct class fields) bytes at byte =
-    field_step schema known bytes at (byte - byte % 64) (byte % 64) (field_wants schema class (byte % 64))
+    field_step schema known bytes at (byte - byte % 64) (byte % 64) (field_expects schema class (byte % 64))
 holder_step schema known (row.Map home items) bytes at byte = collection_step schema known (row.Map home items) home bytes at byte
 holder_step schema known (row.Array home values) bytes at byte = collection_step schema known (row.Array home values) home bytes at byte
 holder_step schema known (row.Set home items) bytes at byte = collection_step schema known (row.Set home items) home bytes at byte
@@ -231,39 +231,39 @@ scalar_of (value.Truth b) = ATruth b
 scalar_of (value.Link n) = AWhole (pos n)
 
 -- the class that a place is declared to hold instances of; 0 where it is none
-abbrev pub declared_class : Option Wanted → ℕ
+abbrev pub declared_class : Option Expected → ℕ
 declared_class (Some (AnItem (item.Class class))) = class
-declared_class wanted = 0
+declared_class expected = 0
 
 -- the kind of an unknown instance: of the marked class, or of the declared one without a mark
-abbrev pub new_instance : Option ℕ → Option Wanted → Row
-new_instance (Some mark) wanted = row.Struct mark []
-new_instance None wanted = row.Struct (declared_class wanted) []
+abbrev pub new_instance : Option ℕ → Option Expected → Row
+new_instance (Some mark) expected = row.Struct mark []
+new_instance None expected = row.Struct (declared_class expected) []
 
--- the kind of an unknown collection: of the home that the place wants
-abbrev pub new_collection : Schema → Option Wanted → Row
+-- the kind of an unknown collection: of the home that the place expects
+abbrev pub new_collection : Schema → Option Expected → Row
 new_collection schema (Some (ACollection home)) = option_map_or (λ r. r) (empty_collection schema home) (row.Array home [])
-new_collection schema wanted = row.Struct 0 []
+new_collection schema expected = row.Struct 0 []
 
 -- what a carried value leads to
-abbrev pub resolved_value : Schema → List RowEntry → Option Wanted → OpValue → Carried
-resolved_value schema known wanted (carried.Scalar kind v) = Plain kind (scalar_of v)
-resolved_value schema known wanted (carried.Struct n mark) = Linked n (option_map_or (λ r. r) (row_at known n) (new_instance mark wanted))
-resolved_value schema known wanted (carried.Coll n) = Linked n (option_map_or (λ r. r) (row_at known n) (new_collection schema wanted))
+abbrev pub resolved_value : Schema → List RowEntry → Option Expected → OpValue → Carried
+resolved_value schema known expected (carried.Scalar kind v) = Plain kind (scalar_of v)
+resolved_value schema known expected (carried.Struct n mark) = Linked n (option_map_or (λ r. r) (row_at known n) (new_instance mark expected))
+resolved_value schema known expected (carried.Coll n) = Linked n (option_map_or (λ r. r) (row_at known n) (new_collection schema expected))
 
 -- what the place of an operation is declared to hold
-abbrev pub wants_at : Schema → Row → OpKey → Option Wanted
-wants_at schema (row.Struct class fields) (Field i) = field_wants schema class i
-wants_at schema holder key = option_and_then (item_wants schema) (row_home holder)
+abbrev pub expects_at : Schema → Row → OpKey → Option Expected
+expects_at schema (row.Struct class fields) (Field i) = field_expects schema class i
+expects_at schema holder key = option_and_then (item_expects schema) (row_home holder)
 
 -- an operation with what its link leads to
 abbrev pub resolved : Schema → List RowEntry → Row → Op → Edit
-resolved schema known holder (op.Add k v) = Add k (resolved_value schema known (wants_at schema holder k) v)
-resolved schema known holder (op.Replace k v) = Replace k (resolved_value schema known (wants_at schema holder k) v)
-resolved schema known holder (op.DeleteAdd k v) = DeleteAdd k (resolved_value schema known (wants_at schema holder k) v)
+resolved schema known holder (op.Add k v) = Add k (resolved_value schema known (expects_at schema holder k) v)
+resolved schema known holder (op.Replace k v) = Replace k (resolved_value schema known (expects_at schema holder k) v)
+resolved schema known holder (op.DeleteAdd k v) = DeleteAdd k (resolved_value schema known (expects_at schema holder k) v)
 resolved schema known holder (op.Delete k) = Delete k
 resolved schema known holder op.Clear = Clear
-resolved schema known holder (op.AddByRef v) = AddByRef (resolved_value schema known (wants_at schema holder (Item 0)) v)
+resolved schema known holder (op.AddByRef v) = AddByRef (resolved_value schema known (expects_at schema holder (Item 0)) v)
 resolved schema known holder (op.DeleteByRef n) = DeleteByRef n
 
 -- the rows known after an operation: the linked one besides

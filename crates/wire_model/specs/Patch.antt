@@ -18,9 +18,9 @@ use Rattle.state_model.specs.declared.row.MapItem.{MapItem}
 use Rattle.state_model.specs.declared.row.SetItem.{SetItem}
 use Rattle.state_model.specs.Values.{same_value, is_link}
 use Rattle.state_model.specs.Rows.{row_at, emptied, numbers_of}
-use Rattle.state_model.specs.declared.place.Wanted.{Wanted}
-use Rattle.state_model.specs.declared.place.Wanted.TheVariants.{Item as AnItem}
-use Rattle.state_model.specs.Places.{field_wants, item_wants, is_filtered}
+use Rattle.state_model.specs.declared.place.Expected.{Expected}
+use Rattle.state_model.specs.declared.place.Expected.TheVariants.{Item as AnItem}
+use Rattle.state_model.specs.Places.{field_expects, item_expects, is_filtered}
 use Rattle.state_model.specs.Reached.{is_among, with_numbers}
 use Rattle.wire_model.specs.declared.op.OpKey.{OpKey}
 use Rattle.wire_model.specs.declared.op.OpKey.TheVariants.{Field, Item, Named}
@@ -31,18 +31,18 @@ use Rattle.wire_model.specs.Grammar.{scalar_of}
 -- ---- carried values
 
 -- the scalar kind that a place is declared to hold
-abbrev pub kind_wanted : Option Wanted → ScalarKind
-kind_wanted (Some (AnItem (item.Scalar k))) = k
-kind_wanted wanted = kind.Number
+abbrev pub kind_expected : Option Expected → ScalarKind
+kind_expected (Some (AnItem (item.Scalar k))) = k
+kind_expected expected = kind.Number
 
 -- the row of a number without its places
 abbrev pub kind_in : List RowEntry → ℕ → Row
 kind_in rows n = option_map_or emptied (row_at rows n) (row.Struct 0 [])
 
 -- a value of the new rows as an operation carries it
-abbrev pub carried : List RowEntry → Option Wanted → Value → Carried
-carried rows wanted (value.Link n) = Linked n (kind_in rows n)
-carried rows wanted v = Plain (kind_wanted wanted) (scalar_of v)
+abbrev pub carried : List RowEntry → Option Expected → Value → Carried
+carried rows expected (value.Link n) = Linked n (kind_in rows n)
+carried rows expected v = Plain (kind_expected expected) (scalar_of v)
 
 -- ---- one place
 
@@ -52,12 +52,12 @@ abbrev pub changed_place : OpKey → OpKey → Value → Carried → Edit
 changed_place key new_key v c = if is_link v then DeleteAdd new_key c else Replace key c
 
 -- the operation on a place: nothing where it is as it was, ADD where it was absent, DELETE where it is gone
-abbrev pub place_edit : OpKey → OpKey → List RowEntry → Option Wanted → Option Value → Option Value → List Edit
-place_edit key new_key rows wanted None None = []
-place_edit key new_key rows wanted None (Some v) = Add new_key (carried rows wanted v) ∷ []
-place_edit key new_key rows wanted (Some u) None = Delete key ∷ []
-place_edit key new_key rows wanted (Some u) (Some v) =
-    if same_value u v then [] else changed_place key new_key v (carried rows wanted v) ∷ []
+abbrev pub place_edit : OpKey → OpKey → List RowEntry → Option Expected → Option Value → Option Value → List Edit
+place_edit key new_key rows expected None None = []
+place_edit key new_key rows expected None (Some v) = Add new_key (carried rows expected v) ∷ []
+place_edit key new_key rows expected (Some u) None = Delete key ∷ []
+place_edit key new_key rows expected (Some u) (Some v) =
+    if same_value u v then [] else changed_place key new_key v (carried rows expected v) ∷ []
 
 -- ---- the places of one row, rising by field, item number or position
 
@@ -88,25 +88,25 @@ either_number old new = with_numbers old new
 -- the operations on an instance
 abbrev pub field_edits : Schema → List RowEntry → ℕ → List FieldValue → List FieldValue → List Edit
 field_edits schema rows class old new =
-    flat_map (λ i. place_edit (Field i) (Field i) rows (field_wants schema class i) (field_value old i) (field_value new i))
+    flat_map (λ i. place_edit (Field i) (Field i) rows (field_expects schema class i) (field_value old i) (field_value new i))
     (either_number (map (λ (f : FieldValue). f.field) old) (map (λ (f : FieldValue). f.field) new))
 
 -- the operations on a map
 abbrev pub map_edits : Schema → List RowEntry → Home → List MapItem → List MapItem → List Edit
 map_edits schema rows home old new =
-    flat_map (λ n. place_edit (Item n) (Named n (item_key (map_item new n))) rows (item_wants schema home) (item_value (map_item old n)) (item_value (map_item new n)))
+    flat_map (λ n. place_edit (Item n) (Named n (item_key (map_item new n))) rows (item_expects schema home) (item_value (map_item old n)) (item_value (map_item new n)))
     (either_number (map (λ (i : MapItem). i.number) old) (map (λ (i : MapItem). i.number) new))
 
 -- the operations on a set
 abbrev pub set_edits : Schema → List RowEntry → Home → List SetItem → List SetItem → List Edit
 set_edits schema rows home old new =
-    flat_map (λ n. place_edit (Item n) (Item n) rows (item_wants schema home) (set_value old n) (set_value new n))
+    flat_map (λ n. place_edit (Item n) (Item n) rows (item_expects schema home) (set_value old n) (set_value new n))
     (either_number (map (λ (i : SetItem). i.number) old) (map (λ (i : SetItem). i.number) new))
 
 -- the operations on an array that goes by position
 abbrev pub slot_edits : Schema → List RowEntry → Home → List Value → List Value → List Edit
 slot_edits schema rows home old new =
-    flat_map (λ at. place_edit (Item at) (Item at) rows (item_wants schema home) (slice_get old at) (slice_get new at))
+    flat_map (λ at. place_edit (Item at) (Item at) rows (item_expects schema home) (slice_get old at) (slice_get new at))
     (range_with_len 0 (max (length old) (length new)))
 
 -- ---- a filtered array
@@ -135,7 +135,7 @@ drop_edit v = []
 
 -- ADD_BY_REFID of an instance
 abbrev pub push_edit : Schema → List RowEntry → Home → Value → Edit
-push_edit schema rows home v = AddByRef (carried rows (item_wants schema home) v)
+push_edit schema rows home v = AddByRef (carried rows (item_expects schema home) v)
 
 -- the operations on a filtered array: where the new items are the old ones that are still there, in their order, and then
 -- items that weren't there, those that went are deleted and the new ones are added; else all are added anew

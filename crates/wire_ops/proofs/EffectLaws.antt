@@ -12,7 +12,7 @@ use Rattle.state_model.specs.declared.row.MapItem.{MapItem}
 use Rattle.state_model.specs.declared.row.SetItem.{SetItem}
 use Rattle.state_model.specs.declared.row.Row.TheVariants as row
 use Rattle.state_model.specs.Rows.{row_at}
-use Rattle.state_model.specs.declared.place.Wanted.{Wanted}
+use Rattle.state_model.specs.declared.place.Expected.{Expected}
 use Rattle.wire_model.specs.declared.op.OpKey.{OpKey}
 use Rattle.wire_model.specs.declared.op.OpKey.TheVariants.{Field, Item, Named}
 use Rattle.wire_model.specs.declared.op.OpValue.{OpValue}
@@ -21,7 +21,7 @@ use Rattle.wire_model.specs.declared.op.Op.{Op}
 use Rattle.wire_model.specs.declared.op.Op.TheVariants as op
 use Rattle.wire_model.specs.Edits.{Edit, Add, Replace, DeleteAdd, Delete, Clear, AddByRef, DeleteByRef, Linked, carried_value}
 use Rattle.wire_model.specs.Effect.{Body, Fields, Items, Slots, Elements, effect, finds}
-use Rattle.wire_model.specs.Grammar.{resolved, resolved_value, wants_at, new_instance, new_collection}
+use Rattle.wire_model.specs.Grammar.{resolved, resolved_value, expects_at, new_instance, new_collection}
 use Rattle.wire_ops.specs.PlainEdits.{plain_value, plain_edit}
 use Rattle.wire_ops.specs.Bodies.{edited_fields, edited_items, edited_slots, edited_elements, put_position, replaced_number}
 
@@ -104,11 +104,11 @@ finds_elements e home items = refl
 
 -- ---- what a link leads to doesn't matter
 
-pub same_carried : (schema : Schema) (known : List RowEntry) (wanted : Option Wanted) (v : OpValue) →
-    carried_value (resolved_value schema known wanted v) ≡ carried_value (plain_value v)
-same_carried schema known wanted (carried.Scalar kind v) = refl
-same_carried schema known wanted (carried.Struct n mark) = refl
-same_carried schema known wanted (carried.Coll n) = refl
+pub same_carried : (schema : Schema) (known : List RowEntry) (expected : Option Expected) (v : OpValue) →
+    carried_value (resolved_value schema known expected v) ≡ carried_value (plain_value v)
+same_carried schema known expected (carried.Scalar kind v) = refl
+same_carried schema known expected (carried.Struct n mark) = refl
+same_carried schema known expected (carried.Coll n) = refl
 
 same_add : (k : OpKey) (n : ℕ) (a b : Row) (body : Body) → effect (Add k (Linked n a)) body ≡ effect (Add k (Linked n b)) body
 same_add (Field i) n x y (Fields c fs) = refl
@@ -144,17 +144,17 @@ row_of known n new = option_map_or (λ r. r) (row_at known n) new
 -- an operation does the same wherever its link leads to
 pub same_effect : (schema : Schema) (known : List RowEntry) (holder : Row) (o : Op) (body : Body) → effect (plain_edit o) body ≡ effect (resolved schema known holder o) body
 same_effect schema known holder (op.Add k (carried.Scalar kind v)) body = refl
-same_effect schema known holder (op.Add k (carried.Struct n mark)) body = same_add k n (row.Struct 0 []) (row_of known n (new_instance mark (wants_at schema holder k))) body
-same_effect schema known holder (op.Add k (carried.Coll n)) body = same_add k n (row.Struct 0 []) (row_of known n (new_collection schema (wants_at schema holder k))) body
+same_effect schema known holder (op.Add k (carried.Struct n mark)) body = same_add k n (row.Struct 0 []) (row_of known n (new_instance mark (expects_at schema holder k))) body
+same_effect schema known holder (op.Add k (carried.Coll n)) body = same_add k n (row.Struct 0 []) (row_of known n (new_collection schema (expects_at schema holder k))) body
 same_effect schema known holder (op.Replace k (carried.Scalar kind v)) body = refl
-same_effect schema known holder (op.Replace k (carried.Struct n mark)) body = same_replace k n (row.Struct 0 []) (row_of known n (new_instance mark (wants_at schema holder k))) body
-same_effect schema known holder (op.Replace k (carried.Coll n)) body = same_replace k n (row.Struct 0 []) (row_of known n (new_collection schema (wants_at schema holder k))) body
+same_effect schema known holder (op.Replace k (carried.Struct n mark)) body = same_replace k n (row.Struct 0 []) (row_of known n (new_instance mark (expects_at schema holder k))) body
+same_effect schema known holder (op.Replace k (carried.Coll n)) body = same_replace k n (row.Struct 0 []) (row_of known n (new_collection schema (expects_at schema holder k))) body
 same_effect schema known holder (op.DeleteAdd k (carried.Scalar kind v)) body = refl
-same_effect schema known holder (op.DeleteAdd k (carried.Struct n mark)) body = same_delete_add k n (row.Struct 0 []) (row_of known n (new_instance mark (wants_at schema holder k))) body
-same_effect schema known holder (op.DeleteAdd k (carried.Coll n)) body = same_delete_add k n (row.Struct 0 []) (row_of known n (new_collection schema (wants_at schema holder k))) body
+same_effect schema known holder (op.DeleteAdd k (carried.Struct n mark)) body = same_delete_add k n (row.Struct 0 []) (row_of known n (new_instance mark (expects_at schema holder k))) body
+same_effect schema known holder (op.DeleteAdd k (carried.Coll n)) body = same_delete_add k n (row.Struct 0 []) (row_of known n (new_collection schema (expects_at schema holder k))) body
 same_effect schema known holder (op.Delete k) body = refl
 same_effect schema known holder op.Clear body = refl
 same_effect schema known holder (op.AddByRef (carried.Scalar kind v)) body = refl
-same_effect schema known holder (op.AddByRef (carried.Struct n mark)) body = same_by_ref n (row.Struct 0 []) (row_of known n (new_instance mark (wants_at schema holder (Item 0)))) body
-same_effect schema known holder (op.AddByRef (carried.Coll n)) body = same_by_ref n (row.Struct 0 []) (row_of known n (new_collection schema (wants_at schema holder (Item 0)))) body
+same_effect schema known holder (op.AddByRef (carried.Struct n mark)) body = same_by_ref n (row.Struct 0 []) (row_of known n (new_instance mark (expects_at schema holder (Item 0)))) body
+same_effect schema known holder (op.AddByRef (carried.Coll n)) body = same_by_ref n (row.Struct 0 []) (row_of known n (new_collection schema (expects_at schema holder (Item 0)))) body
 same_effect schema known holder (op.DeleteByRef n) body = refl

@@ -170,7 +170,7 @@ pub add_index : (items : List MapItem) (old new : TextIndex) (x : MapItem) → f
     IsIndexOf (key_texts (put number_of x items)) new
 add_index items old new x none absent is more = index-with (key_texts items) (key_texts (put number_of x items)) old new x.key x.number (text-put number_of key_in items x) (ap (option_and_then key_in) none) absent is more
 
--- an item in front of others that rise has a number of its own
+-- an item before others that rise has a number of its own
 apart_behind : (low : ℕ) (xs : List MapItem) (x : MapItem) (ys : List MapItem) → RisesFrom number_of low (xs ++ x ∷ ys) → find number_of x.number ys ≡ None
 apart_behind low [] x ys r = find_below number_of (suc x.number) ys x.number r.1 (omega arith)
 apart_behind low (z ∷ xs) x ys r = apart_behind (suc z.number) xs x ys r.1

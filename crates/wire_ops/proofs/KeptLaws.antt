@@ -1,4 +1,4 @@
--- What is kept of an array once a slot is changed, or comes in front or behind.
+-- What is kept of an array once a slot is changed, or comes first or last.
 use Rattle.std.proofs.Common.{◌≡◌, ℕ, suc, ◌+◌, ◌-◌, ◌<◌, ◌≤◌, ◌^◌, true, false, cond, ◌||◌, ◌==◌, List, [], ◌∷◌, ◌++◌, length, set, get_or, Option, Some, None, refl, sym, ap, subst, ◌∙◌, arith, length-append, length-set}
 use Rattle.std.proofs.lemmas.Bool.Decides.{nat_tests}
 use Rattle.lists.specs.Rising.{RisesFrom}
@@ -50,11 +50,11 @@ module _ (s : Inside) (k : IsKept s.slots.items s.first s.links s.closed.items s
         within = λ place t. ((k.within place t).0, omega (arith, (k.within place t).1, more));
       }
 
-  -- places stand in front of the first
+  -- places stand before the first
   pub above_none : 0 < s.first
   above_none = omega (arith, k.wide.1, s.slots.ok.0, s.slots.small)
 
-  -- a value comes in front of all others
+  -- a value comes before all others
   pub kept_in_front : (pairs : List (ℕ × ℕ)) (v : Value) → NotesAlso (Some v) (s.first - 1) s.links pairs → IsKept (Held v ∷ s.slots.items) (s.first - 1) pairs s.closed.items s.holes.items
   kept_in_front pairs v also =
       let slots = s.slots.items in

@@ -1,5 +1,5 @@
 pub mod Bodies
-pub mod Fronts
+pub mod Prefixes
 pub mod Index
 pub mod Places
 pub mod PlainEdits

@@ -29,7 +29,7 @@ NotesAt slot at pairs = (who : ℕ) → is_noted pairs who at ≡ has_link who s
 abbrev pub NotesInstead : Option Value → ℕ → List (ℕ × ℕ) → List (ℕ × ℕ) → Type 0
 NotesInstead slot at old new = (who place : ℕ) → is_noted new who place ≡ (if place == at then has_link who slot else is_noted old who place)
 
--- the first place and so many above it stay within 64 bits, also once as many come in front
+-- the first place and so many above it stay within 64 bits, also once as many come before it
 abbrev pub IsWide : {X : Type 0} → ℕ → List X → Type 0
 IsWide first xs = (first ≤ 2 ^ 63) × (2 ^ 63 ≤ first + length xs)
 

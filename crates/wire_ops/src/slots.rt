@@ -13,7 +13,7 @@ use std::collections::VecDeque;
 use std::marker::Model;
 use std::mem;
 
-// The place of the first slot, before slots are put in front of it.
+// The place of the first slot, as long as none is put before it.
 const START: u64 = 1 << 63;
 
 // Closed holes stay between the slots, which don't move then. Only where there would be more than
@@ -70,7 +70,7 @@ impl Slot {
     }
 }
 
-/// The slots of an array while operations run: a slot may be a hole. A slot is set, put in front
+/// The slots of an array while operations run: a slot may be a hole. A slot is set, put first
 /// and put at the end, and a link is found, in logarithmic time.
 #[derive(Drop)]
 pub struct Slots {
@@ -93,7 +93,7 @@ impl Model for Slots {
 
     ghost view = { λ s. shown s.slots.items };
 
-    // Slots are put in front of the first place at most as often as there are places, so that these
+    // Slots are put before the first place at most as often as there are places, so that these
     // stay within 64 bits.
     ghost invariant = { λ s. IsKept s.slots.items s.first s.links s.closed.items s.holes.items };
 }
@@ -191,7 +191,7 @@ impl Slots {
         self.slots.len() - self.closed.len()
     }
 
-    /// Adds a value at a position: at 0, where a value is present there, it goes in front.
+    /// Adds a value at a position: at 0, where a value is present there, before that one.
     pub(crate) fn add(&mut self, at: u32, value: Value) -> Result<(), Memory>
         ensures { OnOk result (self.new ≡ add_slot at value self.old) }
     {
@@ -285,7 +285,7 @@ impl Slots {
         Ok(())
     }
 
-    // Puts a value in front of all slots. An `Err` changes nothing.
+    // Puts a value before all slots. An `Err` changes nothing.
     fn push_front(&mut self, value: Value) -> Result<(), Memory>
         ensures { OnOk result (self.new ≡ Some value ∷ self.old) }
     {

@@ -1,7 +1,7 @@
 ghost use Rattle.std.specs.Prelude.{◌≡◌, ◌++◌, ◌≤◌, List, length, drop, OnOk, OnErr, IsTrue, ◌∷◌};
 ghost use Rattle.std.specs.List.{flat_map, list_all};
 ghost use Rattle.wire_model.specs.OpBytes.{block_bytes, first_block, whole_block, op_bytes, head_bytes, value_bytes, count_bytes, mark_bytes, link_number};
-ghost use Rattle.wire_ops.specs.Fronts.{IsFrontOf};
+ghost use Rattle.wire_ops.specs.Prefixes.{IsPrefixOf};
 ghost use Rattle.schema_model.specs.Classes.{Schema};
 ghost use Rattle.state_model.specs.declared.row.RowEntry.{RowEntry};
 ghost use Rattle.state_model.specs.Rows.{kinds_of};
@@ -39,7 +39,7 @@ pub fn write_blocks(out: &mut Vec<u8>, blocks: &Blocks, bare_root: bool) -> Resu
 fn put_blocks(out: &mut Vec<u8>, blocks: &[Block], bare_root: bool) -> Result<(), Memory>
     requires { IsTrue (are_writable blocks.now) }
     ensures ok { OnOk result (out.new.items ≡ out.old.items ++ block_bytes blocks.now bare_root) }
-    ensures front { IsFrontOf out.old.items out.new.items }
+    ensures prefix { IsPrefixOf out.old.items out.new.items }
 {
     match blocks.split_first() {
         None => Ok(()),
@@ -53,7 +53,7 @@ fn put_blocks(out: &mut Vec<u8>, blocks: &[Block], bare_root: bool) -> Result<()
 fn put_first_block(out: &mut Vec<u8>, block: &Block, bare: bool) -> Result<(), Memory>
     requires { IsTrue (is_writable block.now) }
     ensures ok { OnOk result (out.new.items ≡ out.old.items ++ first_block bare block.now) }
-    ensures front { IsFrontOf out.old.items out.new.items }
+    ensures prefix { IsPrefixOf out.old.items out.new.items }
 {
     if bare && block.holder.0 == 0 {
         put_ops(out, block.ops.as_slice())
@@ -65,7 +65,7 @@ fn put_first_block(out: &mut Vec<u8>, block: &Block, bare: bool) -> Result<(), M
 fn put_whole_blocks(out: &mut Vec<u8>, blocks: &[Block]) -> Result<(), Memory>
     requires { IsTrue (are_writable blocks.now) }
     ensures ok { OnOk result (out.new.items ≡ out.old.items ++ flat_map whole_block blocks.now) }
-    ensures front { IsFrontOf out.old.items out.new.items }
+    ensures prefix { IsPrefixOf out.old.items out.new.items }
 {
     for block in blocks {
         put_whole_block(out, block)?;
@@ -76,7 +76,7 @@ fn put_whole_blocks(out: &mut Vec<u8>, blocks: &[Block]) -> Result<(), Memory>
 fn put_whole_block(out: &mut Vec<u8>, block: &Block) -> Result<(), Memory>
     requires { IsTrue (is_writable block.now) }
     ensures ok { OnOk result (out.new.items ≡ out.old.items ++ whole_block block.now) }
-    ensures front { IsFrontOf out.old.items out.new.items }
+    ensures prefix { IsPrefixOf out.old.items out.new.items }
 {
     put_numbered(out, SWITCH, block.holder.0)?;
     put_ops(out, block.ops.as_slice())
@@ -85,7 +85,7 @@ fn put_whole_block(out: &mut Vec<u8>, block: &Block) -> Result<(), Memory>
 fn put_ops(out: &mut Vec<u8>, ops: &[Op]) -> Result<(), Memory>
     requires { IsTrue (list_all is_writable_op ops.now) }
     ensures ok { OnOk result (out.new.items ≡ out.old.items ++ flat_map op_bytes ops.now) }
-    ensures front { IsFrontOf out.old.items out.new.items }
+    ensures prefix { IsPrefixOf out.old.items out.new.items }
 {
     for op in ops {
         put_op(out, op)?;
@@ -96,7 +96,7 @@ fn put_ops(out: &mut Vec<u8>, ops: &[Op]) -> Result<(), Memory>
 fn put_op(out: &mut Vec<u8>, op: &Op) -> Result<(), Memory>
     requires { IsTrue (is_writable_op op.now) }
     ensures ok { OnOk result (out.new.items ≡ out.old.items ++ op_bytes op.now) }
-    ensures front { IsFrontOf out.old.items out.new.items }
+    ensures prefix { IsPrefixOf out.old.items out.new.items }
 {
     match op {
         Op::Add(key, value) => put_valued(out, ADD, key, value),
@@ -117,18 +117,18 @@ fn put_valued(out: &mut Vec<u8>, code: u8, key: &OpKey, value: &OpValue) -> Resu
     requires key { IsTrue (is_place key.now) }
     requires value { IsTrue (is_carried value.now) }
     ensures ok { OnOk result (out.new.items ≡ out.old.items ++ (head_bytes code key.now ++ value_bytes value.now)) }
-    ensures front { IsFrontOf out.old.items out.new.items }
+    ensures prefix { IsPrefixOf out.old.items out.new.items }
 {
     put_head(out, code, key)?;
     put_value(out, value)
 }
 
-// The number of an instance stands in front of the whole value, which begins with it again.
+// The number of an instance stands before the whole value, which begins with it again.
 fn put_added_instance(out: &mut Vec<u8>, value: &OpValue) -> Result<(), Memory>
     requires instance { IsTrue (is_instance value.now) }
     requires value { IsTrue (is_carried value.now) }
     ensures ok { OnOk result (out.new.items ≡ out.old.items ++ (129 ∷ (count_bytes (link_number value.now) ++ value_bytes value.now))) }
-    ensures front { IsFrontOf out.old.items out.new.items }
+    ensures prefix { IsPrefixOf out.old.items out.new.items }
 {
     let OpValue::Struct(who, _) = value else {
         unreachable!()
@@ -142,7 +142,7 @@ fn put_head(out: &mut Vec<u8>, code: u8, key: &OpKey) -> Result<(), Memory>
     requires code { code ≤ 192 }
     requires key { IsTrue (is_place key.now) }
     ensures ok { OnOk result (out.new.items ≡ out.old.items ++ head_bytes code key.now) }
-    ensures front { IsFrontOf out.old.items out.new.items }
+    ensures prefix { IsPrefixOf out.old.items out.new.items }
 {
     match key {
         OpKey::Field(index) => {
@@ -160,7 +160,7 @@ fn put_head(out: &mut Vec<u8>, code: u8, key: &OpKey) -> Result<(), Memory>
 fn put_value(out: &mut Vec<u8>, value: &OpValue) -> Result<(), Memory>
     requires { IsTrue (is_carried value.now) }
     ensures ok { OnOk result (out.new.items ≡ out.old.items ++ value_bytes value.now) }
-    ensures front { IsFrontOf out.old.items out.new.items }
+    ensures prefix { IsPrefixOf out.old.items out.new.items }
 {
     match value {
         OpValue::Scalar(kind, scalar) => put_scalar(out, *kind, scalar),
@@ -175,7 +175,7 @@ fn put_value(out: &mut Vec<u8>, value: &OpValue) -> Result<(), Memory>
 fn put_mark(out: &mut Vec<u8>, class: Option<TypeNum>) -> Result<(), Memory>
     requires { IsTrue (is_type class) }
     ensures ok { OnOk result (out.new.items ≡ out.old.items ++ mark_bytes class) }
-    ensures front { IsFrontOf out.old.items out.new.items }
+    ensures prefix { IsPrefixOf out.old.items out.new.items }
 {
     match class {
         Some(class) => put_numbered(out, TYPE_MARK, class.0),
@@ -187,7 +187,7 @@ fn put_mark(out: &mut Vec<u8>, class: Option<TypeNum>) -> Result<(), Memory>
 fn put_numbered(out: &mut Vec<u8>, byte: u8, number: u32) -> Result<(), Memory>
     requires { IsTrue (is_count number) }
     ensures ok { OnOk result (out.new.items ≡ out.old.items ++ (byte ∷ count_bytes number)) }
-    ensures front { IsFrontOf out.old.items out.new.items }
+    ensures prefix { IsPrefixOf out.old.items out.new.items }
 {
     out.push(byte)?;
     put_count(out, number)
@@ -196,7 +196,7 @@ fn put_numbered(out: &mut Vec<u8>, byte: u8, number: u32) -> Result<(), Memory>
 fn put_count(out: &mut Vec<u8>, number: u32) -> Result<(), Memory>
     requires { IsTrue (is_count number) }
     ensures ok { OnOk result (out.new.items ≡ out.old.items ++ count_bytes number) }
-    ensures front { IsFrontOf out.old.items out.new.items }
+    ensures prefix { IsPrefixOf out.old.items out.new.items }
 {
     put_number(out, number as i32)
 }

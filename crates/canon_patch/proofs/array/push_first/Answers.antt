@@ -1,7 +1,7 @@
 use Rattle.std.proofs.Common.{rules, Some}
 use Rattle.std.specs.Prelude.{option_copied}
 use Rattle.schema_model.specs.declared.class.Item.TheVariants.{Scalar}
-use Rattle.state_model.specs.declared.place.Wanted.TheVariants.{Item as AnItem}
+use Rattle.state_model.specs.declared.place.Expected.TheVariants.{Item as AnItem}
 use Rattle.canon_patch.proofs.Encoded.{slot_next}
 use Rattle.canon_patch.proofs.array.push_first.Goals as goal
 

@@ -1,6 +1,6 @@
 use Rattle.std.proofs.Common.{◌≡◌, ◌++◌, Some}
 use Rattle.schema_model.specs.declared.class.Item.TheVariants.{Scalar}
-use Rattle.state_model.specs.declared.place.Wanted.TheVariants.{Item as AnItem}
+use Rattle.state_model.specs.declared.place.Expected.TheVariants.{Item as AnItem}
 use Rattle.canon_patch.specs.Encoded.{first_encoded}
 use Rattle.canon_patch.proofs.array.push_first.Given as goal
 

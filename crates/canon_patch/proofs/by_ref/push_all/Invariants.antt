@@ -1,6 +1,6 @@
 use Rattle.std.proofs.Common.{◌≡◌, ◌++◌, Some, map, take}
 use Rattle.schema_model.specs.declared.class.Item.TheVariants.{Scalar}
-use Rattle.state_model.specs.declared.place.Wanted.TheVariants.{Item as AnItem}
+use Rattle.state_model.specs.declared.place.Expected.TheVariants.{Item as AnItem}
 use Rattle.canon_patch.specs.ByRef.{push_encoded}
 use Rattle.canon_patch.proofs.by_ref.push_all.Given as goal
 

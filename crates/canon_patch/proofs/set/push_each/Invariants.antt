@@ -1,7 +1,7 @@
 use Rattle.std.proofs.Common.{◌≡◌, ◌++◌, Some, take}
 use Rattle.std.specs.List.{flat_map}
 use Rattle.schema_model.specs.declared.class.Item.TheVariants.{Scalar}
-use Rattle.state_model.specs.declared.place.Wanted.TheVariants.{Item as AnItem}
+use Rattle.state_model.specs.declared.place.Expected.TheVariants.{Item as AnItem}
 use Rattle.canon_patch.specs.Encoded.{element_encoded}
 use Rattle.canon_patch.proofs.set.push_each.Given as goal
 

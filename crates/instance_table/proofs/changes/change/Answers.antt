@@ -18,7 +18,7 @@ pub edit-requires-clause-number : goal.edit-requires-clause-number
 edit-requires-clause-number c =
     let start = c.args.graph.now.nodes in
     let h = c.args.holder in
-    of_body (λ b. c.args.spot.now.number ≡ item_number c.args.command.now (row_of b)) start c.let_go_links.new.graph.nodes h (ap (λ es. body_at es h) c.let_go_links.ensures ∙ body_let_go (held_at (rows_in start) h) h start h) c.requires.number
+    of_body (λ b. c.args.located.now.number ≡ item_number c.args.command.now (row_of b)) start c.let_go_links.new.graph.nodes h (ap (λ es. body_at es h) c.let_go_links.ensures ∙ body_let_go (held_at (rows_in start) h) h start h) c.requires.number
 
 pub returns-in-Clear-clause-ok : goal.returns-in-Clear-clause-ok
 returns-in-Clear-clause-ok c =

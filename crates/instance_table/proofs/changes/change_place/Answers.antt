@@ -15,4 +15,4 @@ pub edit-requires-clause-number : goal.edit-requires-clause-number
 edit-requires-clause-number c =
     let start = c.args.graph.now.nodes in
     let h = c.args.holder in
-    of_body (λ b. c.args.spot.now.number ≡ item_number c.args.command.now (row_of b)) start c.hold_link.new.graph.nodes h (ap (λ es. body_at es h) c.in_ok-hold_link.ensures.ok ∙ body_hold c.link_of.result h start h) c.requires.number
+    of_body (λ b. c.args.located.now.number ≡ item_number c.args.command.now (row_of b)) start c.hold_link.new.graph.nodes h (ap (λ es. body_at es h) c.in_ok-hold_link.ensures.ok ∙ body_hold c.link_of.result h start h) c.requires.number

@@ -4,7 +4,7 @@ use Rattle.view_edits.specs.There.{are_there}
 use Rattle.room_core.specs.declared.client.Client.{Client}
 use Rattle.room_core.specs.Ticks.{AllThere, client_swept}
 use Rattle.room_core.proofs.Mixed.{mixed_next}
-use Rattle.room_core.proofs.Fronts.{mixed_set, all_passed}
+use Rattle.room_core.proofs.Prefixes.{mixed_set, all_passed}
 use Rattle.room_core.proofs.ticks.forget_all.Goals as goal
 
 pub forget_in_view-requires : goal.forget_in_view-requires

@@ -11,7 +11,7 @@ use Rattle.live_state.specs.Live.{rows_of, schema_of}
 use Rattle.room_core.proofs.ClientLists.{told_set}
 use Rattle.room_core.proofs.Edited.{on_err}
 use Rattle.room_core.specs.Ticks.{sent_to}
-use Rattle.room_core.proofs.Fronts.{all_passed}
+use Rattle.room_core.proofs.Prefixes.{all_passed}
 use Rattle.room_core.proofs.TickedAll.{Done, written_back, done_more, next_same, cost_more, cost_after, outs_at, session_at}
 use Rattle.room_core.proofs.ticks.tick_all.Goals as goal
 

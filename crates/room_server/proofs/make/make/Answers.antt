@@ -1,5 +1,5 @@
 use Rattle.std.proofs.Common.{◌∙◌, inl, refl, subst}
-use Rattle.outside.proofs.TakeLaws.{no_front}
+use Rattle.outside.proofs.TakeLaws.{no_prefix}
 use Rattle.load_maker.specs.Generated.{generated}
 use Rattle.room_server.specs.Endings.{Writes}
 use Rattle.room_server.specs.Summaries.{summary_text}
@@ -21,4 +21,4 @@ pub returns-in-Ok-clause-quiet : goal.returns-in-Ok-clause-quiet
 returns-in-Ok-clause-quiet g c = quiet_of _ _ c.write_text.result Done c.ended.result c.write_text.ensures.cause c.ended.ensures
 
 pub returns-in-Err-clause-ends : goal.returns-in-Err-clause-ends
-returns-in-Err-clause-ends g c = no_front (g.K.Sink.taken c.args.sink.now) (summary_text (generated c.args.seed c.args.rounds))
+returns-in-Err-clause-ends g c = no_prefix (g.K.Sink.taken c.args.sink.now) (summary_text (generated c.args.seed c.args.rounds))

@@ -1,6 +1,6 @@
 use Rattle.std.proofs.Common.{ℕ, [], ◌∷◌, sym, subst, Contains}
-use Rattle.room_server.proofs.EndingLaws.{status_listed, ended_usage, ended_done, ended_refused, front_ended, done_always, refused_always, made_always}
-use Rattle.room_server.proofs.PlayedLaws.{taken_keep}
+use Rattle.room_server.proofs.EndingLaws.{status_listed, ended_usage, ended_done, ended_refused, prefix_ended, done_always, refused_always, made_always}
+use Rattle.room_server.proofs.ReplayedLaws.{taken_keep}
 use Rattle.room_server.proofs.TaskLaws.{task_built}
 use Rattle.room_server.proofs.run.run.Goals as goal
 
@@ -17,8 +17,8 @@ returns-clause-usage g c = ended_usage _ _ _ _ _ c.answer.result c.status.result
 pub returns-clause-refused : goal.returns-clause-refused
 returns-clause-refused g c = ended_refused _ (task_built c.args.words.now) _ _ _ _ c.answer.result c.status.result c.answer.ensures.ends c.status.ensures
 
-pub returns-clause-front : goal.returns-clause-front
-returns-clause-front g c = front_ended _ _ _ _ _ c.answer.result c.answer.ensures.ends
+pub returns-clause-prefix : goal.returns-clause-prefix
+returns-clause-prefix g c = prefix_ended _ _ _ _ _ c.answer.result c.answer.ensures.ends
 
 pub returns-clause-done_always : goal.returns-clause-done_always
 returns-clause-done_always g c = done_always _ (task_built c.args.words.now) _ _ _ _ c.answer.result c.status.result _ _ _ _ c.answer.ensures.ends c.status.ensures c.answer.ensures.read_cause c.answer.ensures.write_cause

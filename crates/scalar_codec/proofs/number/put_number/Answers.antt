@@ -1,18 +1,11 @@
 -- What each form leaves in `out` is read again.
-use Rattle.std.proofs.Common.{◌≡◌, ◌^◌, ◌<◌, true, pos, negsuc, ℤ, FitsSigned, arith, rules}
-use Rattle.std.specs.Int.{w32}
-use Rattle.std.proofs.lemmas.Bool.Decides.{nat_tests}
+use Rattle.std.proofs.Common.{rules}
 use Rattle.schema_model.specs.Spelling.{number_bytes}
 use Rattle.schema_model.specs.Reading.{number_at}
-use Rattle.schema_model.specs.Fits.{in_signed}
 use Rattle.schema_model.proofs.NumberAgain.{number_again}
+use Rattle.schema_model.proofs.Signed.{in_signed_w32}
 use Rattle.scalar_codec.proofs.Grown.{grown_again}
 use Rattle.scalar_codec.proofs.number.put_number.Goals as goal
-
--- an `i32` is in the range of a `number`
-in_signed_w32 : (z : ℤ) → FitsSigned w32 z → in_signed (2 ^ 31) z ≡ true
-in_signed_w32 (pos n) h = let below : n < 2 ^ 31 = h.sfits in grind (arith, nat_tests)
-in_signed_w32 (negsuc n) h = let below : n < 2 ^ 31 = h.sfits in grind (arith, nat_tests)
 
 pub returns-then-value-lt0-clause-again : goal.returns-then-value-lt0-clause-again
 returns-then-value-lt0-clause-again c =

@@ -2,7 +2,7 @@ use Rattle.std.proofs.Common.{◌≡◌, true, take}
 use Rattle.std.specs.List.{list_all}
 use Rattle.state_model.specs.Sound.{keys_differ}
 use Rattle.text_model.specs.Marks.{is_room_name}
-use Rattle.schema_reader.specs.Words.{bytes_of}
+use Rattle.text_words.specs.Words.{bytes_of}
 use Rattle.schedule_text.proofs.def.names_of.Given as goal
 
 abbrev pub invariant-loop-word : goal.invariant-loop-word

@@ -1,8 +1,8 @@
 use Rattle.std.proofs.Common.{◌≡◌, ◌∙◌, ap, codes, cond, false, rules, subst, sym, take}
 use Rattle.text_model.specs.Lines.{is_word, words_of}
 use Rattle.text_model.specs.OutLines.{plain_out}
-use Rattle.schema_reader.specs.Words.{bytes_of}
-use Rattle.schedule_text.specs.Cuts.{replied}
+use Rattle.text_words.specs.Words.{bytes_of}
+use Rattle.schedule_text.specs.Tells.{replied}
 use Rattle.schedule_text.specs.Reads.{Reads}
 use Rattle.schedule_text.proofs.Forms.{out_taken}
 use Rattle.schedule_text.proofs.ReplyLaws.{out_cut}

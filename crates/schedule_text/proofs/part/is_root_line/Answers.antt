@@ -2,7 +2,7 @@ use Rattle.std.proofs.Common.{◌≡◌, ◌∙◌, ap, refl, rules, take}
 use Rattle.text_model.specs.Lines.{words_of}
 use Rattle.text_model.specs.Schedules.{is_root_form}
 use Rattle.text_model.specs.SchemaReading.{line_form}
-use Rattle.schema_reader.specs.Words.{bytes_of}
+use Rattle.text_words.specs.Words.{bytes_of}
 use Rattle.schema_reader.proofs.LineForms.{first_words_form}
 use Rattle.schedule_text.proofs.part.is_root_line.Goals as goal
 

@@ -1,7 +1,7 @@
 use Rattle.std.proofs.Common.{◌≡◌, ◌+◌, ◌<◌, ◌^◌, length}
 use Rattle.text_model.specs.Lines.{behind_lines, lines_in}
 use Rattle.text_model.specs.OutLines.{outs_from}
-use Rattle.schedule_text.specs.Cuts.{behind_some}
+use Rattle.schedule_text.specs.Tells.{behind_some}
 use Rattle.schedule_text.proofs.printed.read_outs.Given as goal
 
 abbrev pub invariant-loop-line : goal.invariant-loop-line

@@ -1,6 +1,6 @@
 use Rattle.std.proofs.Common.{◌++◌, ◌∙◌, ap, codes, map}
 use Rattle.std.specs.Fmt.{decimal}
-use Rattle.schema_reader.specs.Words.{behind}
+use Rattle.text_words.specs.Words.{behind}
 use Rattle.text_model.specs.RowLines.{home_word}
 use Rattle.text_model.specs.WordForms.{value_word}
 use Rattle.schedule_text.proofs.Prints.{row_done}

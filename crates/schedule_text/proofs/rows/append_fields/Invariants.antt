@@ -1,5 +1,5 @@
 use Rattle.std.proofs.Common.{◌≡◌, ◌++◌, map, take}
-use Rattle.schema_reader.specs.Words.{behind}
+use Rattle.text_words.specs.Words.{behind}
 use Rattle.text_model.specs.RowLines.{field_word}
 use Rattle.schedule_text.proofs.rows.append_fields.Given as goal
 

@@ -1,6 +1,6 @@
 use Rattle.std.proofs.Common.{◌++◌, ◌∙◌, ap, codes, map}
 use Rattle.std.specs.Fmt.{decimal}
-use Rattle.schema_reader.specs.Words.{behind}
+use Rattle.text_words.specs.Words.{behind}
 use Rattle.text_model.specs.RowLines.{home_word, map_item_word}
 use Rattle.schedule_text.proofs.Prints.{row_done}
 use Rattle.schedule_text.proofs.rows.append_map.Goals as goal

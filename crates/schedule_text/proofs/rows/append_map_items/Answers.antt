@@ -1,4 +1,4 @@
-use Rattle.lists.proofs.Fronts.{starts_before}
+use Rattle.lists.proofs.Prefixes.{starts_before}
 use Rattle.schedule_text.proofs.Prints.{any_err}
 use Rattle.schedule_text.proofs.rows.append_map_items.Goals as goal
 

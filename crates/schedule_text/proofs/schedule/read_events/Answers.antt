@@ -1,7 +1,7 @@
 use Rattle.std.proofs.Common.{◌+◌, ◌∙◌, ap, sym, arith}
 use Rattle.text_model.specs.Lines.{behind_lines, lines_in}
 use Rattle.text_model.specs.Schedules.{events_from}
-use Rattle.schedule_text.specs.Cuts.{behind_some}
+use Rattle.schedule_text.specs.Tells.{behind_some}
 use Rattle.schedule_text.proofs.Texts.{events_more}
 use Rattle.schedule_text.proofs.schedule.read_events.Goals as goal
 

@@ -1,5 +1,5 @@
 use Rattle.std.proofs.Common.{sym, subst}
-use Rattle.schedule_text.specs.Cuts.{Tells}
+use Rattle.schedule_text.specs.Tells.{Tells}
 use Rattle.schedule_text.proofs.ReadLaws.{schedule_on}
 use Rattle.schedule_text.proofs.schedule.read_parts.Goals as goal
 

@@ -1,7 +1,7 @@
 use Rattle.std.proofs.Common.{◌≡◌, ◌∙◌, ap, rules, subst, take}
 use Rattle.text_model.specs.Schedules.{process_of}
 use Rattle.text_model.specs.Lines.{words_of}
-use Rattle.schema_reader.specs.Words.{bytes_of}
+use Rattle.text_words.specs.Words.{bytes_of}
 use Rattle.schedule_text.specs.Reads.{Reads}
 use Rattle.schedule_text.proofs.Forms.{process_taken}
 use Rattle.schedule_text.proofs.schedule.read_process.Goals as goal

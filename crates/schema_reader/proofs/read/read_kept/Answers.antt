@@ -1,5 +1,5 @@
-use Rattle.std.proofs.Common.{ap, ◌∙◌, cond, subst}
-use Rattle.std.specs.Prelude.{IfOk, None, Some}
+use Rattle.std.proofs.Common.{ap, ◌∙◌, cond}
+use Rattle.std.specs.Prelude.{None, Some}
 use Rattle.schema_model.specs.Classes.{Schema}
 use Rattle.schema_reader.proofs.ReadLaws.{read_is_kept}
 use Rattle.schema_reader.proofs.read.read_kept.Goals as goal

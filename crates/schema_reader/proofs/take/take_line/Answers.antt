@@ -6,7 +6,7 @@ use Rattle.text_model.specs.SchemaReading.{Draft}
 use Rattle.text_model.specs.declared.fault.SchemaFault.{SchemaFault}
 use Rattle.schema_reader.specs.Forms.{form_line}
 use Rattle.schema_reader.specs.Gives.{Gives, taken}
-use Rattle.schema_reader.specs.Words.{bytes_of}
+use Rattle.text_words.specs.Words.{bytes_of}
 use Rattle.schema_reader.proofs.LineForms.{first_words_form, line_formed, line_taken_form}
 use Rattle.schema_reader.proofs.take.take_line.Goals as goal
 

@@ -1,8 +1,8 @@
 use Rattle.std.proofs.Common.{◌∙◌, sym, ap}
 use Rattle.std.specs.Prelude.{is_some, option_map}
 use Rattle.hub_model.specs.HubValues.{HubRoom}
-use Rattle.hub_core.specs.Stood.{room_in}
-use Rattle.hub_core.proofs.PlayLaws.{room_found}
+use Rattle.hub_core.specs.RoomEntry.{room_in}
+use Rattle.hub_core.proofs.HandleLaws.{room_found}
 use Rattle.hub_core.proofs.hub.Hub.room.Goals as goal
 
 pub returns-in-Some-clause-there : goal.returns-in-Some-clause-there

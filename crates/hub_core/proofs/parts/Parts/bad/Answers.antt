@@ -6,5 +6,5 @@ use Rattle.hub_core.proofs.parts.Parts.bad.Goals as goal
 
 pub returns : goal.returns
 returns g c =
-    one_ok _ _ c.push.result (λ told. no_request g.R.RoomLike.room g.R.RoomLike.Holds g.R.RoomLike.happens c.args.self.now c.requires c.know.ensures c.args.conn c.args.told.now c.push.new.self told)
-    (pushed_ok c.push.result c.push.new.self c.args.told.now (out.Close c.args.conn 1002 ∷ []) c.push.ensures)
+    one_ok _ _ c.push.result (λ outs. no_request g.R.RoomLike.room g.R.RoomLike.Holds g.R.RoomLike.handled c.args.self.now c.requires c.know.ensures c.args.conn c.args.outs.now c.push.new.self outs)
+    (pushed_ok c.push.result c.push.new.self c.args.outs.now (out.Close c.args.conn 1002 ∷ []) c.push.ensures)

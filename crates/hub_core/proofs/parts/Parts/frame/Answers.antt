@@ -3,26 +3,32 @@ use Rattle.room_model.specs.declared.event.RoomEvent.TheVariants as event
 use Rattle.room_model.specs.declared.refusal.Refusal.TheVariants as refusal
 use Rattle.hub_model.specs.declared.event.HubEvent.TheVariants as happened
 use Rattle.hub_model.specs.declared.event.HubOut.TheVariants as out
+use Rattle.hub_model.specs.HubStep.{event_of_conn}
 use Rattle.hub_core.specs.Hubs.{hub_of}
-use Rattle.hub_core.specs.Played.{played_in}
 use Rattle.hub_core.specs.Takes.{rules_of}
+use Rattle.hub_core.proofs.CostLaws.{event_cost}
 use Rattle.hub_core.proofs.ConnLaws.{conn_of}
-use Rattle.hub_core.proofs.EventLaws.{no_frame, may_frame, frame_step, room_there, takes_played}
+use Rattle.hub_core.proofs.EventLaws.{no_frame, may_frame, frame_step, room_there, takes_handled}
 use Rattle.hub_core.proofs.RoomLaws.{one_ok, pushed_ok}
 use Rattle.hub_core.proofs.parts.Parts.frame.Goals as goal
 
-pub returns-in_default : goal.returns-in_default
-returns-in_default g c =
-    one_ok _ _ c.push.result (λ told. no_frame g.R.RoomLike.room g.R.RoomLike.Holds g.R.RoomLike.happens c.args.self.now c.requires c.know.ensures c.args.conn c.args.bytes.now c.args.told.now c.push.new.self c.in_default.ensures told)
-    (pushed_ok c.push.result c.push.new.self c.args.told.now (out.Refused refusal.NoConn ∷ []) c.push.ensures)
+pub returns-in_default-clause-takes : goal.returns-in_default-clause-takes
+returns-in_default-clause-takes g c =
+    one_ok _ _ c.push.result (λ outs. no_frame g.R.RoomLike.room g.R.RoomLike.Holds g.R.RoomLike.handled c.args.self.now c.requires c.know.ensures c.args.conn c.args.bytes c.args.outs.now c.push.new.self c.in_default.ensures.value outs)
+    (pushed_ok c.push.result c.push.new.self c.args.outs.now (out.Refused refusal.NoConn ∷ []) c.push.ensures)
 
-pub play-requires-clause-happen : goal.play-requires-clause-happen
-play-requires-clause-happen g c = may_frame g.R.RoomLike.room g.R.RoomLike.Holds c.args.self.now c.requires c.args.conn (conn_of c.at.inside) (ap Some c.at.view_is ∙ c.in-Some.ensures) c.in_ok-copy_bytes.field-0
+pub handle_in-requires-clause-happen : goal.handle_in-requires-clause-happen
+handle_in-requires-clause-happen g c = may_frame g.R.RoomLike.room g.R.RoomLike.Holds c.args.self.now c.requires c.args.conn (conn_of c.linked.inside) (ap Some c.linked.view_is ∙ c.in-Some.ensures.value) c.args.bytes
 
-pub returns : goal.returns
-returns g c =
+pub returns-clause-takes : goal.returns-clause-takes
+returns-clause-takes g c =
     let old = c.args.self.now in
     let h = hub_of g.R.RoomLike.room old in
-    let is = frame_step (rules_of g.R.RoomLike.happens) h c.args.conn c.args.bytes.now (conn_of c.at.inside) (sym (ap Some c.at.view_is ∙ c.in-Some.ensures)) (room_there g.R.RoomLike.room g.R.RoomLike.Holds c.args.self.now c.requires c.args.conn (conn_of c.at.inside) (ap Some c.at.view_is ∙ c.in-Some.ensures)) in
-    takes_played g.R.RoomLike.room g.R.RoomLike.Holds g.R.RoomLike.happens (happened.Frame c.args.conn c.args.bytes.now) old c.play.new.self c.args.told.now c.play.new.told c.at.inside.room (event.Frame c.at.inside.session c.in_ok-copy_bytes.field-0) c.play.result
-    (is ∙ ap (λ b. played_in g.R.RoomLike.happens h c.at.inside.room (event.Frame c.at.inside.session b)) (sym c.in_ok-copy_bytes.ensures)) c.play.ensures.hub c.play.ensures.told c.play.ensures.stands
+    takes_handled g.R.RoomLike.room g.R.RoomLike.Holds g.R.RoomLike.handled (happened.Frame c.args.conn c.args.bytes) old c.handle_in.new.self c.args.outs.now c.handle_in.new.outs c.linked.inside.room (event.Frame c.linked.inside.session c.args.bytes) c.handle_in.result
+    (frame_step (rules_of g.R.RoomLike.handled) h c.args.conn c.args.bytes (conn_of c.linked.inside) (sym (ap Some c.linked.view_is ∙ c.in-Some.ensures.value)) (room_there g.R.RoomLike.room g.R.RoomLike.Holds old c.requires c.args.conn (conn_of c.linked.inside) (ap Some c.linked.view_is ∙ c.in-Some.ensures.value)))
+    c.handle_in.ensures.hub c.handle_in.ensures.outs c.handle_in.ensures.stands
+
+pub returns-clause-cost : goal.returns-clause-cost
+returns-clause-cost g c =
+    event_cost g.R.RoomLike.room g.R.RoomLike.costs (rules_of g.R.RoomLike.handled) c.args.self.now (happened.Frame c.args.conn c.args.bytes) c.linked.inside.room (event.Frame c.linked.inside.session c.args.bytes) c.handle_in.new.steps c.args.steps.now
+    (λ r. ap (event_of_conn r (λ session. event.Frame session c.args.bytes)) (sym (ap Some c.linked.view_is ∙ c.in-Some.ensures.value))) c.handle_in.ensures.cost

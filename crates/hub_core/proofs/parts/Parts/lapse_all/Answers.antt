@@ -1,47 +1,41 @@
-use Rattle.std.proofs.Common.{◌≡◌, ◌∙◌, ℕ, true, List, Some, None, IfSome, sym, subst}
+use Rattle.std.proofs.Common.{◌≤◌, ◌+◌, IfSome, subst}
 use Rattle.lists.specs.Rising.{find as find_by}
 use Rattle.room_model.specs.declared.event.RoomEvent.TheVariants as event
-use Rattle.hub_model.specs.Ids.{is_id}
-use Rattle.hub_core.specs.Stood.{serial_of}
+use Rattle.hub_core.specs.Costs.{lapse_cost}
+use Rattle.hub_core.specs.RoomEntry.{serial_of}
 use Rattle.hub_core.specs.Turned.{Turned}
-use Rattle.hub_core.proofs.LapsedLaws.{Lapsing, first_there, lapsing_first, lapsing_last, lapsing_next}
-use Rattle.hub_core.proofs.MomentLaws.{may_lapse}
+use Rattle.hub_core.proofs.CostLaws.{lapsing_paid, lapsing_within}
+use Rattle.hub_core.proofs.LapsedLaws.{Lapsing, lapsing_last, lapsing_next}
 use Rattle.hub_core.proofs.parts.Parts.lapse_all.Goals as goal
 
-pub rooms-init : goal.rooms-init
-rooms-init g c =
-    let old = c.args.self.now in
-    subst (λ ks. Lapsing g.R.RoomLike.room g.R.RoomLike.Holds g.R.RoomLike.happens old.moment c.args.due.now.keys ks old old c.args.told.now c.args.told.now) (sym (c.into_iter-serial-iterator.ensures.into_iter_gives ∙ c.iter-serial-items.ensures.rest))
-    (lapsing_first g.R.RoomLike.room g.R.RoomLike.Holds g.R.RoomLike.happens old.moment c.args.due.now.keys old c.args.told.now c.requires.order c.requires.rises c.requires.there c.requires.needed)
-
-pub happen-requires-clause-order : goal.happen-requires-clause-order
-happen-requires-clause-order g c = c.rooms.invariant.order
-
-pub happen-requires-clause-there : goal.happen-requires-clause-there
-happen-requires-clause-there g c =
-    c.rooms.invariant.there c.in-Some.serial.now (c.rooms.invariant.within c.in-Some.serial.now (rw c.in-Some.ensures.steps (first_there c.in-Some.serial.now c.next.new.self)))
-
-pub happen-requires-clause-happen : goal.happen-requires-clause-happen
-happen-requires-clause-happen g c = may_lapse g.R.RoomLike.room c.rooms.self.moment (find_by serial_of c.in-Some.serial.now c.rooms.self.registry.rooms) c.rooms.invariant.order.early
-
-pub happen-requires-clause-names : goal.happen-requires-clause-names
-happen-requires-clause-names g c k is = none_reserved k is
-  where
-    none_reserved : (k : List ℕ) → None ≡ Some k → is_id k ≡ true
-    none_reserved k is = absurd cc
-
-pub happen-requires-clause-homes : goal.happen-requires-clause-homes
-happen-requires-clause-homes g c k is = absurd (none_reserved k is)
-  where
-    none_reserved : (k : List ℕ) → None ≡ Some k → ⊥
-    none_reserved k is = absurd cc
+pub returns-in_err-handle_at-clause-cost : goal.returns-in_err-handle_at-clause-cost
+returns-in_err-handle_at-clause-cost g c =
+    let room = g.R.RoomLike.room in
+    let costs = g.R.RoomLike.costs in
+    let at = c.args.self.now.moment in
+    let ss = c.rooms.self.registry.rooms in
+    lapsing_within room g.R.RoomLike.Holds g.R.RoomLike.handled costs at c.in-Some.serial.now c.args.due.now.keys c.next.new.self c.args.self.now c.rooms.self c.args.outs.now c.rooms.outs c.args.steps.now c.rooms.steps c.handle_at.new.steps (lapse_cost room costs at c.args.due.now.keys c.args.self.now.registry.rooms)
+    (subst (λ ks. Lapsing room g.R.RoomLike.Holds g.R.RoomLike.handled at c.args.due.now.keys ks c.args.self.now c.rooms.self c.args.outs.now c.rooms.outs) c.in-Some.ensures.steps c.rooms.invariant.0) c.handle_at.ensures.ordered
+    (subst (λ ks. c.rooms.steps + lapse_cost room costs at ks ss ≤ c.args.steps.now + lapse_cost room costs at c.args.due.now.keys c.args.self.now.registry.rooms) c.in-Some.ensures.steps c.rooms.invariant.1)
+    (subst (λ m. IfSome (find_by serial_of c.in-Some.serial.now ss) (λ s. c.handle_at.new.steps ≤ c.rooms.steps + costs (room s.room) (event.Moment m))) c.rooms.invariant.0.moment
+    (subst (λ n. IfSome (find_by serial_of n ss) (λ s. c.handle_at.new.steps ≤ c.rooms.steps + costs (room s.room) (event.Moment c.rooms.self.moment))) c.reference-at.ensures c.handle_at.ensures.cost))
 
 pub rooms-preserved : goal.rooms-preserved
 rooms-preserved g c =
+    let room = g.R.RoomLike.room in
+    let costs = g.R.RoomLike.costs in
     let old = c.args.self.now in
-    lapsing_next g.R.RoomLike.room g.R.RoomLike.is_spent g.R.RoomLike.Holds g.R.RoomLike.happens old.moment c.in-Some.serial.now c.args.due.now.keys c.next.new.self old c.rooms.self c.happen.new.self c.args.told.now c.rooms.told c.happen.new.told
-    (subst (λ ks. Lapsing g.R.RoomLike.room g.R.RoomLike.Holds g.R.RoomLike.happens old.moment c.args.due.now.keys ks old c.rooms.self c.args.told.now c.rooms.told) c.in-Some.ensures.steps c.rooms.invariant)
-    c.in_ok-happen.ensures.ordered (subst (λ at. IfSome (find_by serial_of c.in-Some.serial.now c.rooms.self.registry.rooms) (λ s. Turned g.R.RoomLike.room g.R.RoomLike.is_spent g.R.RoomLike.happens (event.Moment at) s c.rooms.self c.happen.new.self c.rooms.told c.happen.new.told)) c.rooms.invariant.moment c.in_ok-happen.ensures.turned) c.in_ok-happen.ensures.order
+    let at = old.moment in
+    let ss = c.rooms.self.registry.rooms in
+    let now = subst (λ ks. Lapsing room g.R.RoomLike.Holds g.R.RoomLike.handled at c.args.due.now.keys ks old c.rooms.self c.args.outs.now c.rooms.outs) c.in-Some.ensures.steps c.rooms.invariant.0 in
+    let turned = subst (λ m. IfSome (find_by serial_of c.in-Some.serial.now ss) (λ s. Turned room g.R.RoomLike.is_spent g.R.RoomLike.handled (event.Moment m) s c.rooms.self c.handle_at.new.self c.rooms.outs c.handle_at.new.outs)) c.rooms.invariant.0.moment
+    (subst (λ n. IfSome (find_by serial_of n ss) (λ s. Turned room g.R.RoomLike.is_spent g.R.RoomLike.handled (event.Moment c.rooms.self.moment) s c.rooms.self c.handle_at.new.self c.rooms.outs c.handle_at.new.outs)) c.reference-at.ensures c.in_ok-handle_at.ensures.turned) in (
+      lapsing_next room g.R.RoomLike.is_spent g.R.RoomLike.Holds g.R.RoomLike.handled at c.in-Some.serial.now c.args.due.now.keys c.next.new.self old c.rooms.self c.handle_at.new.self c.args.outs.now c.rooms.outs c.handle_at.new.outs now c.handle_at.ensures.ordered turned c.in_ok-handle_at.ensures.order,
+      lapsing_paid room g.R.RoomLike.is_spent g.R.RoomLike.Holds g.R.RoomLike.handled costs at c.in-Some.serial.now c.args.due.now.keys c.next.new.self old c.rooms.self c.handle_at.new.self c.args.outs.now c.rooms.outs c.handle_at.new.outs c.args.steps.now c.rooms.steps c.handle_at.new.steps (lapse_cost room costs at c.args.due.now.keys old.registry.rooms) now c.handle_at.ensures.ordered turned
+          (subst (λ ks. c.rooms.steps + lapse_cost room costs at ks ss ≤ c.args.steps.now + lapse_cost room costs at c.args.due.now.keys old.registry.rooms) c.in-Some.ensures.steps c.rooms.invariant.1)
+          (subst (λ m. IfSome (find_by serial_of c.in-Some.serial.now ss) (λ s. c.handle_at.new.steps ≤ c.rooms.steps + costs (room s.room) (event.Moment m))) c.rooms.invariant.0.moment
+          (subst (λ n. IfSome (find_by serial_of n ss) (λ s. c.handle_at.new.steps ≤ c.rooms.steps + costs (room s.room) (event.Moment c.rooms.self.moment))) c.reference-at.ensures c.handle_at.ensures.cost)),
+    )
 
-pub returns : goal.returns
-returns g c = lapsing_last g.R.RoomLike.room g.R.RoomLike.Holds g.R.RoomLike.happens c.args.self.now.moment c.args.due.now.keys c.rooms.serial-iterator c.args.self.now c.rooms.self c.args.told.now c.rooms.told c.in-None.ensures.steps.0 c.rooms.invariant
+pub returns-clause-lapsed : goal.returns-clause-lapsed
+returns-clause-lapsed g c = lapsing_last g.R.RoomLike.room g.R.RoomLike.Holds g.R.RoomLike.handled c.args.self.now.moment c.args.due.now.keys c.rooms.serial-iterator c.args.self.now c.rooms.self c.args.outs.now c.rooms.outs c.in-None.ensures.steps.0 c.rooms.invariant.0

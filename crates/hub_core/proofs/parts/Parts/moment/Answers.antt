@@ -1,33 +1,29 @@
-use Rattle.std.proofs.Common.{◌<◌, ◌^◌, refl, sym, subst}
-use Rattle.hub_core.proofs.MomentLaws.{due_there, stays_early, takes_moment}
+use Rattle.std.proofs.Common.{refl, sym}
+use Rattle.hub_core.specs.Takes.{rules_of}
+use Rattle.hub_core.proofs.CostLaws.{moment_cost}
+use Rattle.hub_core.proofs.MomentLaws.{due_there, each_due, takes_moment}
 use Rattle.hub_core.proofs.RoomLaws.{one_ok}
 use Rattle.hub_core.proofs.parts.Parts.moment.Goals as goal
-
-pub lapse_all-requires-clause-order : goal.lapse_all-requires-clause-order
-lapse_all-requires-clause-order g c =
-    let order = c.requires.order in
-    record {
-      kept = order.kept;
-      shelves = order.shelves;
-      rooms = order.rooms;
-      conns = order.conns;
-      early = subst (λ m. m < 2 ^ 53) (sym c.later-self.ensures) (stays_early c.args.self.now.moment c.args.now order.early);
-      few = order.few;
-      forms = order.forms;
-      process = order.process;
-      housed = order.housed;
-    }
 
 pub lapse_all-requires-clause-there : goal.lapse_all-requires-clause-there
 lapse_all-requires-clause-there g c =
     due_there g.R.RoomLike.room c.later-self.result c.in_ok-due.due.keys c.args.self.now.registry.rooms c.args.self.now.registry.lapses c.requires.order.kept.noted c.in_ok-due.ensures.due
 
-pub lapse_all-requires-clause-needed : goal.lapse_all-requires-clause-needed
-lapse_all-requires-clause-needed g c = c.requires.needed
+pub returns-in_err-lapse_all-clause-cost : goal.returns-in_err-lapse_all-clause-cost
+returns-in_err-lapse_all-clause-cost g c =
+    let old = c.args.self.now in
+    moment_cost g.R.RoomLike.room g.R.RoomLike.costs (rules_of g.R.RoomLike.handled) old c.args.now c.later-self.result c.in_ok-due.due.keys c.lapse_all.new.steps c.args.steps.now c.know.ensures.0 (sym c.later-self.ensures)
+    (each_due g.R.RoomLike.room c.later-self.result c.in_ok-due.due.keys old.registry.rooms old.registry.lapses c.requires.order.kept.noted c.in_ok-due.ensures.due) c.lapse_all.ensures.cost
 
-pub returns : goal.returns
-returns g c =
+pub returns-clause-takes : goal.returns-clause-takes
+returns-clause-takes g c =
     let old = c.args.self.now in
     one_ok _ _ c.dispose_all.result (λ leaves.
-    takes_moment g.R.RoomLike.room g.R.RoomLike.Holds g.R.RoomLike.happens c.args.now c.later-self.result c.in_ok-due.due.keys old c.requires c.know.ensures (sym c.later-self.ensures) c.in_ok-due.ensures.due
-    (record { alloc = old.alloc; moment = c.later-self.result; schema = old.schema; process = old.process; defs = old.defs; registry = old.registry; conns = old.conns; homes = old.homes }) c.lapse_all.new.self c.dispose_all.new.self c.args.told.now c.lapse_all.new.told c.dispose_all.new.told refl refl refl refl refl refl c.in_ok-lapse_all.ensures leaves) c.dispose_all.ensures
+    takes_moment g.R.RoomLike.room g.R.RoomLike.Holds g.R.RoomLike.handled c.args.now c.later-self.result c.in_ok-due.due.keys old c.requires c.know.ensures (sym c.later-self.ensures) c.in_ok-due.ensures.due
+    (record { alloc = old.alloc; moment = c.later-self.result; schema = old.schema; process = old.process; defs = old.defs; registry = old.registry; conns = old.conns; session_rooms = old.session_rooms }) c.lapse_all.new.self c.dispose_all.new.self c.args.outs.now c.lapse_all.new.outs c.dispose_all.new.outs refl refl refl refl refl refl c.in_ok-lapse_all.ensures.lapsed leaves) c.dispose_all.ensures
+
+pub returns-clause-cost : goal.returns-clause-cost
+returns-clause-cost g c =
+    let old = c.args.self.now in
+    moment_cost g.R.RoomLike.room g.R.RoomLike.costs (rules_of g.R.RoomLike.handled) old c.args.now c.later-self.result c.in_ok-due.due.keys c.lapse_all.new.steps c.args.steps.now c.know.ensures.0 (sym c.later-self.ensures)
+    (each_due g.R.RoomLike.room c.later-self.result c.in_ok-due.due.keys old.registry.rooms old.registry.lapses c.requires.order.kept.noted c.in_ok-due.ensures.due) c.lapse_all.ensures.cost

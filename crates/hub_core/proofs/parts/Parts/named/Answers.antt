@@ -1,7 +1,7 @@
 use Rattle.std.proofs.Common.{◌≡◌, ◌∙◌, ℕ, Bool, true, false, List, Some, None, refl, sym, ap}
 use Rattle.std.specs.Prelude.{option_copied, if◌then◌else◌}
-use Rattle.hub_model.specs.Ids.{is_id}
-use Rattle.hub_core.proofs.LedLaws.{none_named}
+use Rattle.schema_model.specs.Ids.{is_id}
+use Rattle.hub_core.proofs.OutcomeLaws.{none_named}
 use Rattle.hub_core.proofs.parts.Parts.named.Goals as goal
 
 no_id : (b : Bool) (x : List ℕ) → None ≡ (if b then Some x else None) → b ≡ false

@@ -43,7 +43,7 @@ there c =
     sym (ap₂ node_at c.self.view_is c.who.view_is) ∙ (found ∙ ap (λ (s : Slot Node). s.item) (sym c.index_mut.ensures.value))
 
 pub edit-requires-clause-number : goal.edit-requires-clause-number
-edit-requires-clause-number c = subst (λ (o : Option Node). IfSome o (λ n. c.args.spot.now.number ≡ item_number c.args.command.now (row_of n.body))) (there c) c.requires.number
+edit-requires-clause-number c = subst (λ (o : Option Node). IfSome o (λ n. c.args.located.now.number ≡ item_number c.args.command.now (row_of n.body))) (there c) c.requires.number
 
 pub edit-requires-clause-can : goal.edit-requires-clause-can
 edit-requires-clause-can c = subst (λ (o : Option Node). IfSome o (λ n. CanEdit c.args.command.now n.body)) (there c) c.requires.can

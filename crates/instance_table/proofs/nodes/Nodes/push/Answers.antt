@@ -20,7 +20,7 @@ invariant_of-self-2 c =
     let slot : Slot Node = record { number = c.who.inside.0; item = Some c.args.node } in
     let above = rw (← c.self.view_is, ← c.who.view_is, ← kept.entries) at c.requires in
     let slots = slots_above entry_of entry_agrees number_of 0 c.who.inside.0 es kept.rises (entries_own es) kept.full above in
-    rw c.in_ok-push_lean.ensures (
+    rw c.in_ok-push_exact.ensures (
       RisesFrom-push slot_number 0 es slot kept.rises slots zero-le,
       rw (items-push entry_of entry_agrees es slot, kept.entries) (omega (arith, c.self.invariant.1, length-append (entries_in c.self.inside.slots.items) ((c.who.inside.0, c.args.node) ∷ []))),
     )
@@ -29,9 +29,9 @@ pub returns : goal.returns
 returns c =
     let es = c.drop_last_holes.new.slots.items in
     let slot : Slot Node = record { number = c.who.inside.0; item = Some c.args.node } in
-    rw (c.in_ok-push_lean.ensures, items-push entry_of entry_agrees es slot, c.drop_last_holes.ensures.entries, ← c.self.view_is, ← c.who.view_is) refl
+    rw (c.in_ok-push_exact.ensures, items-push entry_of entry_agrees es slot, c.drop_last_holes.ensures.entries, ← c.self.view_is, ← c.who.view_is) refl
 
 pub invariant_of-self : goal.invariant_of-self
 invariant_of-self c =
     let kept = c.drop_last_holes.ensures in
-    rw (c.in_err-push_lean.ensures, kept.entries) (kept.rises, c.self.invariant.1)
+    rw (c.in_err-push_exact.ensures, kept.entries) (kept.rises, c.self.invariant.1)

@@ -1,11 +1,8 @@
-use Rattle.std.proofs.Common.{◌∙◌, zero-le, Result, Ok, Err, OnErr}
+use Rattle.std.proofs.Common.{◌∙◌, zero-le}
 use Rattle.lists.proofs.Places.{find_here, put_here, find_missing, put_missing}
+use Rattle.lists.proofs.Results.{on_err}
 use Rattle.lists.proofs.RisingLaws.{RisesFrom-put}
 use Rattle.lists.proofs.rising.Rising.put.Goals as goal
-
-on_err : {T E P : Type 0} (r : Result T E) → P → OnErr r P
-on_err (Ok x) p = tt
-on_err (Err e) p = p
 
 pub invariant_of-self : goal.invariant_of-self
 invariant_of-self g c =

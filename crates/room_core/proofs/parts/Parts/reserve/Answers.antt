@@ -18,7 +18,7 @@ unwrap-requires c =
 pub returns-clause-stands : goal.returns-clause-stands
 returns-clause-stands c =
     let p = c.args.self.now in (
-      stands_more p.live p.shared p.clients.items c.push_lean.new.items.items
+      stands_more p.live p.shared p.clients.items c.push_exact.new.items.items
           (record { id = c.args.session; stage = Reserved; members = c.in_ok-new.field-0; view = c.in_ok-new-2.field-0; queue = c.new-3.result; keep = p.def.keep }) (search rules)
           (λ last. fresh_stands (schema_of p.live) last (rows_of p.live) _ refl c.in_ok-new.ensures (c.in_ok-new-2.ensures ∙ ap new_view c.schema.ensures.value)) c.requires.stands.0,
       c.requires.stands.1,

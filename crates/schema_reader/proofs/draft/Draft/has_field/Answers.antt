@@ -3,7 +3,7 @@ use Rattle.std.specs.Prelude.{slice_get}
 use Rattle.std.specs.List.{list_any}
 use Rattle.std.specs.Str.{bytes_eq}
 use Rattle.text_model.specs.SchemaReading.{last_names}
-use Rattle.schema_reader.specs.Words.{bytes_of}
+use Rattle.text_words.specs.Words.{bytes_of}
 use Rattle.schema_reader.proofs.Drafts.{any_bytes, last_names-found}
 use Rattle.schema_reader.proofs.draft.Draft.has_field.Goals as goal
 

@@ -6,7 +6,7 @@ use Rattle.std.specs.Prelude.{List, Option}
 use Rattle.text_model.specs.SchemaReading.{Draft, with_field}
 use Rattle.text_model.specs.declared.draft.DraftClass.{DraftClass}
 use Rattle.text_model.specs.declared.draft.DraftRoot.{DraftRoot}
-use Rattle.schema_reader.specs.Words.{bytes_of}
+use Rattle.text_words.specs.Words.{bytes_of}
 use Rattle.schema_reader.proofs.Drafts.{indexed_field, indexed_kept, last_inside, with_field-set}
 use Rattle.schema_reader.proofs.draft.Draft.push_field.Goals as goal
 

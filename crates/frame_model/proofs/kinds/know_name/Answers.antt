@@ -1,7 +1,0 @@
-use Rattle.std.proofs.Common.{ℕ, List, subst}
-use Rattle.std.specs.Str.{IsUtf8}
-use Rattle.std.proofs.lemmas.Str.{is_utf8-from_IsUtf8}
-use Rattle.frame_model.proofs.kinds.know_name.Goals as goal
-
-pub returns : goal.returns
-returns c = is_utf8-from_IsUtf8 c.args.name.now (subst (λ (bs : List ℕ). IsUtf8 bs) c.as_str.ensures c.as_str.utf8)

@@ -1,6 +1,0 @@
-use Rattle.std.proofs.Common.{◌^◌, ◌∙◌, arith}
-use Rattle.schema_reader.proofs.Numbers.{digits_on_done}
-use Rattle.schema_reader.proofs.decimal.read_digits.Goals as goal
-
-pub returns : goal.returns
-returns c = digits_on_done (2 ^ 64) c.args.digits.now c.loop-digit.digit-index c.loop-digit.number (omega arith) (omega arith) ∙ c.loop-digit.invariant.rest
