@@ -274,6 +274,21 @@ def requests(count):
     return Work(hall(" filter mode") + filled(count, 1, body, 10), guests, REQUESTS, 1)
 
 
+def other_rooms(count):
+    """The same among rooms of one client each, all open, each of a mode of its own: the newest has the mode asked for."""
+
+    def body(room):
+        return f'{{"mode":"m{room}"}}'
+
+    return Work(hall(" filter mode") + filled(count, 7, body, count), guest(named("r", count - 1), body(count - 1)) * REQUESTS, REQUESTS, 1)
+
+
+def joins(count):
+    """So many players ask for a seat in any room of four, and get the next one."""
+    front = head("room four max 4 seat 15000 patch 50 keep 0\n")
+    return Work(front, "".join(ask("joinOrCreate", "four", "{}", named("r", player), named("s", player)) for player in range(count)))
+
+
 def hub_moments(count):
     """Rooms are made a millisecond after one another, and lapse so."""
     rounds, parts = ROOMS // count, []
@@ -385,7 +400,9 @@ KERNELS = {
     "to_all": (to_all, (32, 64)),
     "requests": (requests, (500, 1_000)),
     "hub_frames": (hub_frames, (100, 1_000)),
-    "hub_requests": (hub_requests, (500, 1_000)),
+    "hub_requests": (hub_requests, (500, 1_000, 4_000)),
+    "other_rooms": (other_rooms, (500, 1_000, 4_000)),
+    "joins": (joins, (75_000, 150_000)),
     "hub_moments": (hub_moments, (500, 1_000)),
     "decode_full": (decode_full, (5_000, 10_000, 71_500, 143_000)),
     "decode_patch": (decode_patch, (500, 1_000)),

@@ -1,3 +1,3 @@
-pub mod Writable
 pub mod Fitting
 pub mod ReadAgain
+pub mod Writable

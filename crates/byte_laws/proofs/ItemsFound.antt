@@ -6,6 +6,7 @@ use Rattle.std.proofs.lemmas.Bool.Decides.{nat_tests}
 use Rattle.lists.proofs.SameBytes.{same_bytes}
 use Rattle.lists.specs.Rising.{RisesFrom, find, put, remove}
 use Rattle.lists.proofs.RisingLaws.{find_key, find-put, find-remove, find-filter_kept}
+use Rattle.lists.proofs.Passing.{list_any-found}
 use Rattle.schema_model.specs.Classes.{Schema}
 use Rattle.schema_model.specs.declared.value.Value.{Value}
 use Rattle.schema_model.specs.declared.place.Home.{Home}
@@ -14,7 +15,6 @@ use Rattle.state_model.specs.declared.row.MapItem.{MapItem}
 use Rattle.state_model.specs.declared.row.SetItem.{SetItem}
 use Rattle.state_model.specs.Sound.{keys_differ}
 use Rattle.state_model.specs.Places.{item_expects}
-use Rattle.state_laws.proofs.Passing.{list_any-found}
 use Rattle.wire_model.specs.declared.op.OpKey.{OpKey}
 use Rattle.wire_model.specs.declared.op.OpKey.TheVariants.{Item, Named}
 use Rattle.wire_model.specs.Edits.{carried_value}

@@ -5,6 +5,7 @@ use Rattle.std.specs.List.{AllByRecursion as Each}
 use Rattle.std.specs.Option.{option_map_or}
 use Rattle.std.proofs.lemmas.Bool.{eqb-true}
 use Rattle.std.proofs.lemmas.Bool.Decides.{nat_tests}
+use Rattle.lists.proofs.Tests.{or_wider}
 use Rattle.schema_model.specs.Classes.{Schema}
 use Rattle.schema_model.specs.declared.value.Value.{Value}
 use Rattle.schema_model.specs.declared.value.Value.TheVariants.{Whole, Str, Truth, Link}
@@ -27,7 +28,7 @@ use Rattle.wire_laws.proofs.Bools.{or-none, or_moved, in_either}
 use Rattle.wire_laws.proofs.LinkedRows.{CarriesKind, CarriesKinds, with_carried, carried_lives, is_live-put_row}
 use Rattle.wire_laws.proofs.EncodedValues.{Knows}
 use Rattle.wire_laws.proofs.EncodedKnown.{known_with, knows_behind, lives_behind}
-use Rattle.wire_laws.proofs.EncodedBlocks.{Follows, ops_mean, or_wider}
+use Rattle.wire_laws.proofs.EncodedBlocks.{Follows, ops_mean}
 use Rattle.block_laws.specs.Fitting.{OpsFit, BlocksFit}
 use Rattle.byte_laws.proofs.EditFits.{Puts, EditFits}
 use Rattle.byte_laws.proofs.ReadEdits.{edits_read}

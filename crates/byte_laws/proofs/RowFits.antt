@@ -7,6 +7,8 @@ use Rattle.std.proofs.lemmas.Bool.{and_parts, and_from, eqb-true}
 use Rattle.std.proofs.lemmas.Bool.Decides.{nat_tests}
 use Rattle.std.proofs.lemmas.Option.{slice_get_within}
 use Rattle.lists.proofs.RisingLaws.{find_key}
+use Rattle.lists.proofs.Options.{mapped_some}
+use Rattle.lists.proofs.Passing.{all-found}
 use Rattle.schema_model.specs.Classes.{Schema, is_kept}
 use Rattle.schema_model.specs.declared.value.Value.{Value}
 use Rattle.schema_model.specs.declared.place.Home.{Home}
@@ -19,8 +21,6 @@ use Rattle.state_model.specs.declared.row.SetItem.{SetItem}
 use Rattle.state_model.specs.Rows.{emptied}
 use Rattle.state_model.specs.Places.{field_expects, item_expects, is_filtered, holds_instances, same_kind}
 use Rattle.state_model.specs.Sound.{rise, differ, keys_differ, fits_place, places_fit, has_kind}
-use Rattle.state_laws.proofs.Numbers.{mapped_some}
-use Rattle.state_laws.proofs.Tests.{all-found}
 use Rattle.wire_model.specs.declared.op.OpKey.{OpKey}
 use Rattle.wire_model.specs.declared.op.OpKey.TheVariants.{Field, Item, Named}
 use Rattle.wire_model.specs.Grammar.{expects_at}
@@ -31,6 +31,7 @@ use Rattle.wire_laws.proofs.EditedPlaces.{all-slice_get}
 use Rattle.wire_laws.proofs.EncodedEdits.{found_passes}
 use Rattle.block_laws.specs.Writable.{is_place, is_count}
 use Rattle.state_model.specs.Spelled.{is_spelled_key, is_spelled_value, is_spelled_row}
+use Rattle.state_laws.proofs.Fitting.{emptied_fits}
 use Rattle.byte_laws.proofs.SpelledRows.{is_counted, has_counts, wants_small, fits_some, items_expected}
 use Rattle.byte_laws.proofs.EditFits.{EditFits, Each-append, place_fits, refs_fit}
 
@@ -167,13 +168,6 @@ emptied_counts schema (Set home items) = refl
 none_differs : (b : Bool) → ((not b || true) && true) ≡ true
 none_differs true = refl
 none_differs false = refl
-
--- the places of a row without places fit
-emptied_fits : (schema : Schema) (rows : List RowEntry) (r : Row) → places_fit schema rows (emptied r) ≡ true
-emptied_fits schema rows (Struct class fields) = refl
-emptied_fits schema rows (Map home items) = refl
-emptied_fits schema rows (Array home values) = none_differs (is_filtered schema home)
-emptied_fits schema rows (Set home items) = refl
 
 -- CLEAR is on a collection
 start_fits : (schema : Schema) (new : List RowEntry) (r : Row) → Each (EditFits schema new (emptied r)) (whole_start r)

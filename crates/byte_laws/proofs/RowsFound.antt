@@ -1,6 +1,7 @@
 -- The operations that lead from one row to another find their items in a row that has the places of the first, and those of a whole row in any row of its kind.
 use Rattle.std.proofs.Common.{◌≡◌, ◌≤◌, ℕ, Bool, true, false, cond, List, [], ◌∷◌, length, map, filter, Option, Some, refl, sym, ap, arith}
 use Rattle.std.proofs.lemmas.List.{length-map}
+use Rattle.lists.proofs.Passing.{length-filter_most}
 use Rattle.schema_model.specs.Classes.{Schema}
 use Rattle.schema_model.specs.declared.value.Value.{Value}
 use Rattle.schema_model.specs.declared.place.Home.{Home}
@@ -10,7 +11,6 @@ use Rattle.state_model.specs.declared.row.RowEntry.{RowEntry}
 use Rattle.state_model.specs.declared.row.FieldValue.{FieldValue}
 use Rattle.state_model.specs.Rows.{emptied}
 use Rattle.state_model.specs.Places.{field_expects, is_filtered, same_kind}
-use Rattle.state_laws.proofs.Passing.{length-filter_most}
 use Rattle.state_laws.proofs.SharedWithin.{Within}
 use Rattle.wire_model.specs.declared.op.OpKey.TheVariants.{Field}
 use Rattle.wire_model.specs.Effect.{Slots, opened}

@@ -6,6 +6,7 @@ use Rattle.std.specs.Option.{option_map, option_map_or}
 use Rattle.std.proofs.lemmas.Bool.{and_parts}
 use Rattle.std.proofs.lemmas.Bool.Decides.{nat_tests}
 use Rattle.std.proofs.lemmas.Option.{slice_get_within}
+use Rattle.lists.proofs.Passing.{all-found}
 use Rattle.wire_model.specs.Patch.{is_short}
 use Rattle.schema_model.specs.Classes.{Schema, Declared, is_kept, parents_earlier, item_in_range, item_of, fields_of, fields_from, home_field}
 use Rattle.schema_model.specs.declared.class.Class.{Class}
@@ -25,7 +26,6 @@ use Rattle.state_model.specs.declared.place.Expected.TheVariants.{Item as AnItem
 use Rattle.state_model.specs.Places.{expected_of, field_expects, item_expects, row_home, same_kind, collection_of, empty_collection}
 use Rattle.state_model.specs.Sound.{fits_place, has_kind}
 use Rattle.state_laws.proofs.Numbers.{entry, row_found}
-use Rattle.state_laws.proofs.Tests.{all-found}
 use Rattle.state_model.specs.Spelled.{is_spelled_row, are_spelled}
 use Rattle.block_laws.specs.Writable.{is_count}
 

@@ -7,6 +7,7 @@ use Rattle.std.proofs.lemmas.Bool.Decides.{nat_tests}
 use Rattle.std.proofs.lemmas.List.Elements.{filter_agree}
 use Rattle.std.proofs.lemmas.Option.{same_Some}
 use Rattle.lists.specs.Rising.{RisesFrom}
+use Rattle.lists.proofs.Passing.{length-filter_most, list_all_wider, list_all_filtered, found-all}
 use Rattle.wire_model.specs.Patch.{is_short, are_short}
 use Rattle.schema_model.specs.Classes.{Schema, home_field, item_of}
 use Rattle.schema_model.specs.declared.class.FieldDecl.{FieldDecl}
@@ -25,9 +26,7 @@ use Rattle.state_model.specs.declared.row.SetItem.{SetItem}
 use Rattle.state_model.specs.Rows.{number_of, row_at}
 use Rattle.state_model.specs.Places.{is_filtered, instance_class}
 use Rattle.state_model.specs.Shown.{item_shown, declared_item_shown, shows_field, shows_item, shown_row, permitted, shared}
-use Rattle.state_laws.proofs.Passing.{length-filter_most}
 use Rattle.state_laws.proofs.Numbers.{found_row}
-use Rattle.state_laws.proofs.Tests.{list_all_filtered, list_all_wider, found-all}
 use Rattle.state_laws.proofs.PermittedLaws.{permitted_from}
 use Rattle.state_laws.proofs.SharedWithin.{shared_within}
 use Rattle.state_model.specs.Spelled.{is_spelled_key, is_spelled_value, is_spelled_row}

@@ -7,6 +7,7 @@ use Rattle.std.proofs.lemmas.List.Concat.{flat_map-append}
 use Rattle.std.proofs.lemmas.Option.{same_Some}
 use Rattle.lists.specs.Rising.{find}
 use Rattle.lists.proofs.RisingLaws.{find_key}
+use Rattle.lists.proofs.ListFacts.{flat_map_same}
 use Rattle.schema_model.specs.Classes.{Schema}
 use Rattle.schema_model.specs.declared.scalar.ScalarKind.{ScalarKind}
 use Rattle.schema_model.specs.declared.class.Item.TheVariants.{Scalar}
@@ -60,11 +61,6 @@ place_by_kind key new_key rows expected None (Some v) = rw (carried_by_kind rows
 place_by_kind key new_key rows expected (Some u) (Some v) = rw (carried_by_kind rows expected v) refl
 
 -- ---- the shapes
-
--- lists that are the same at each item
-flat_map_same : {X Y : Type 0} (f g : X → List Y) → ((x : X) → f x ≡ g x) → (xs : List X) → flat_map f xs ≡ flat_map g xs
-flat_map_same f g h [] = refl
-flat_map_same f g h (x ∷ xs) = rw (h x, flat_map_same f g h xs) refl
 
 -- the operations of places, told by what serves as well
 encoded_each : (edits same : ℕ → List Edit) → ((n : ℕ) → same n ≡ edits n) → (ns : List ℕ) → map encoded (flat_map edits ns) ≡ flat_map (λ n. map encoded (same n)) ns

@@ -3,6 +3,7 @@ use Rattle.std.proofs.Common.{◌≡◌, ℕ, true, List, Option, Some, None, If
 use Rattle.std.specs.Prelude.{IsTrue}
 use Rattle.std.proofs.lemmas.Bool.{and_from}
 use Rattle.lists.specs.Rising.{RisesFrom}
+use Rattle.lists.proofs.Passing.{all-found, found-all}
 use Rattle.schema_model.specs.Classes.{Schema}
 use Rattle.schema_model.specs.declared.place.Pair.{Pair}
 use Rattle.state_model.specs.declared.row.Row.{Row}
@@ -14,7 +15,6 @@ use Rattle.state_model.specs.Shown.{permitted, shared}
 use Rattle.state_laws.proofs.Numbers.{entry, found_row, row_found}
 use Rattle.state_laws.proofs.PermittedLaws.{permitted_rises}
 use Rattle.state_laws.proofs.RowsOf.{rows_rise}
-use Rattle.state_laws.proofs.Tests.{all-found, found-all}
 use Rattle.wire_model.specs.Effect.{apply_edits}
 use Rattle.wire_model.specs.Patch.{is_short, are_short, patch_edits}
 use Rattle.wire_laws.specs.FrameLaw.{Follows}

@@ -1,6 +1,6 @@
 pub mod Applying
 pub mod ByRef
+pub mod Encoded
 pub mod LeadingRows
 pub mod MergeLaws
 pub mod NewRows
-pub mod Encoded

@@ -1,7 +1,7 @@
 //! The frames that bytes are.
 ghost use Rattle.std.specs.Prelude.{◌≡◌, ◌≤◌, length};
 ghost use Rattle.schema_model.specs.Reading.{◌>>=◌ as ◌then◌};
-ghost use Rattle.frame_model.specs.Reading.{alone, is_payload, kind_at, message_behind, raw_behind, read_client};
+ghost use Rattle.frame_model.specs.Reading.{without_payload, is_payload, kind_at, message_behind, raw_behind, read_client};
 ghost use Rattle.frame_model.specs.ServerReading.{read_server};
 ghost use Rattle.client_frames.specs.Given.{GivesFrame};
 
@@ -29,8 +29,8 @@ pub fn read_client(alloc: Global, bytes: &[u8]) -> Result<ClientFrame, FrameFaul
         return Err(FrameFault::Empty);
     };
     match *code {
-        JOIN_ROOM => alone(ClientFrame::Ack, rest),
-        LEAVE_ROOM => alone(ClientFrame::Leave, rest),
+        JOIN_ROOM => without_payload(ClientFrame::Ack, rest),
+        LEAVE_ROOM => without_payload(ClientFrame::Leave, rest),
         ROOM_DATA => client_message(alloc, bytes),
         ROOM_DATA_BYTES => client_raw(alloc, bytes),
         code => Err(FrameFault::UnknownCode(code)),
@@ -38,8 +38,8 @@ pub fn read_client(alloc: Global, bytes: &[u8]) -> Result<ClientFrame, FrameFaul
 }
 
 // A frame of one byte.
-fn alone(frame: ClientFrame, rest: &[u8]) -> Result<ClientFrame, FrameFault>
-    ensures { GivesFrame result (alone frame rest.now) }
+fn without_payload(frame: ClientFrame, rest: &[u8]) -> Result<ClientFrame, FrameFault>
+    ensures { GivesFrame result (without_payload frame rest.now) }
 {
     if rest.is_empty() {
         Ok(frame)

@@ -1,6 +1,6 @@
 mod Copies
 mod Indexed
 mod MapIndex
-mod MapLaws
+pub mod MapLaws
 mod SetIndex
 mod SetLaws

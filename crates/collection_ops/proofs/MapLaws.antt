@@ -31,7 +31,7 @@ keys_apart [] = refl
 keys_apart (k ∷ ks) = grind (arith, nat_tests, keys_apart ks)
 
 -- the item of a key has a number from the least on
-number_from : (low : ℕ) (items : List MapItem) (key : List ℕ) (i : MapItem) → RisesFrom map_number low items → key_item items key ≡ Some i → low ≤ i.number
+pub number_from : (low : ℕ) (items : List MapItem) (key : List ℕ) (i : MapItem) → RisesFrom map_number low items → key_item items key ≡ Some i → low ≤ i.number
 number_from low [] key i r h = cc
 number_from low (x ∷ items) key i r h = grind (arith, nat_tests, r.0, number_from (suc x.number) items key i r.1)
 

@@ -6,7 +6,7 @@ ghost use Rattle.collection_ops.specs.Bodies.{MapState, map_number, key_item, ma
 ghost use Rattle.collection_ops.specs.Indexes.{key_texts};
 
 use crate::fault::ItemFault;
-use lists::{Memory, Text};
+use lists::{Copied, Memory, Text};
 use schema_model::{LAST_NUMBER, Value};
 use state_model::{MapItem, MapItems};
 use std::alloc::Global;

@@ -6,7 +6,7 @@ ghost use Rattle.collection_ops.specs.Indexes.{IsWithoutValue};
 
 use crate::fault::ItemFault;
 use crate::value_index::ValueIndex;
-use lists::Memory;
+use lists::{Copied, Memory};
 use schema_model::{LAST_NUMBER, Value};
 use state_model::{SetItem, SetItems};
 use std::alloc::Global;

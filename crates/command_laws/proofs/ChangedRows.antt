@@ -14,12 +14,12 @@ use Rattle.state_model.specs.Rows.{number_of, row_at, held_in, put_row, emptied}
 use Rattle.state_model.specs.Reached.{is_among, reached, HasNoCycle}
 use Rattle.state_model.specs.State.{State, next_item}
 use Rattle.state_model.specs.Commands.{holder_of, value_put, gives_number, edited, counts_items, is_cycle}
-use Rattle.state_laws.proofs.Numbers.{live_at}
+use Rattle.state_laws.proofs.Numbers.{live_at, put_rises}
 use Rattle.state_laws.proofs.Fitting.{same_declared}
 use Rattle.state_laws.proofs.PermittedLaws.{no_cycle_within}
 use Rattle.command_laws.specs.Kept.{item_numbers, IsKept}
 use Rattle.command_laws.proofs.Accepted.{IsAccepted}
-use Rattle.command_laws.proofs.LinkedRows.{row_put, put_rises, put_from, no_cycle_linked}
+use Rattle.command_laws.proofs.LinkedRows.{row_put, put_from, no_cycle_linked}
 use Rattle.command_laws.proofs.PutValues.{put_fits}
 use Rattle.command_laws.proofs.EditedRows.{edited_kind, edited_held, edited_numbers, counts_given, edited_differs, edited_fits}
 use Rattle.command_laws.proofs.SoundRows.{IsSoundRow, sound_row, sound_rises, KindsStay}
@@ -42,7 +42,8 @@ kinds_changed rows who row new at kind n a s = by_test (who == n) refl
     by_test false f = (a, row_put rows who new n ∙ ap (λ b. cond b (Some new) (row_at rows n)) f ∙ s, refl)
 
 -- an accepted change makes no cycle
-changed_acyclic : (schema : Schema) (s : State) (c : Command) (holder : ℕ) (row : Row) → IsKept schema s → holder_of c ≡ Some holder → row_at s.rows holder ≡ Some row → IsAccepted schema s c (Some row) → HasNoCycle (put_row holder (after_row s c holder row) s.rows)
+changed_acyclic : (schema : Schema) (s : State) (c : Command) (holder : ℕ) (row : Row) → IsKept schema s → holder_of c ≡ Some holder → row_at s.rows holder ≡ Some row
+    → IsAccepted schema s c (Some row) → HasNoCycle (put_row holder (after_row s c holder row) s.rows)
 changed_acyclic schema s c holder row kept names at free = by_value (value_put c) refl
   where
     new : Row

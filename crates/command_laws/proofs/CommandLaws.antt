@@ -35,7 +35,8 @@ use Rattle.command_laws.proofs.ChangedRows.{kinds_changed, after_row}
 -- rows
 
 -- every row stays, of its kind
-pub command_kinds : (schema : Schema) (s : State) (c : Command) (t : State) (made : Option ℕ) → IsKept schema s → do_command schema s c ≡ Ok (t, made) → (n : ℕ) (a : Row) → row_at s.rows n ≡ Some a → (b : Row) × (row_at t.rows n ≡ Some b) × (emptied b ≡ emptied a)
+pub command_kinds : (schema : Schema) (s : State) (c : Command) (t : State) (made : Option ℕ) → IsKept schema s → do_command schema s c ≡ Ok (t, made) → (n : ℕ) (a : Row)
+    → row_at s.rows n ≡ Some a → (b : Row) × (row_at t.rows n ≡ Some b) × (emptied b ≡ emptied a)
 command_kinds schema s c t made kept h n a at = elim (outcome schema s c t made h) [
   | inl m ↦ (a, ap (λ (q : State). row_at q.rows n) m.after ∙ stands_beside s.rows (suc s.given) m.row n a (next_free schema s kept) at, refl)
   | inr d ↦
@@ -44,7 +45,8 @@ command_kinds schema s c t made kept h n a at = elim (outcome schema s c t made 
 ]
 
 -- a row that wasn't there has the number that the command tells, the next one
-pub command_new : (schema : Schema) (s : State) (c : Command) (t : State) (made : Option ℕ) → do_command schema s c ≡ Ok (t, made) → (n : ℕ) (b : Row) → row_at s.rows n ≡ None → row_at t.rows n ≡ Some b → (made ≡ Some n) × (n ≡ suc s.given) × (t.given ≡ n)
+pub command_new : (schema : Schema) (s : State) (c : Command) (t : State) (made : Option ℕ) → do_command schema s c ≡ Ok (t, made) → (n : ℕ) (b : Row) → row_at s.rows n ≡ None
+    → row_at t.rows n ≡ Some b → (made ≡ Some n) × (n ≡ suc s.given) × (t.given ≡ n)
 command_new schema s c t made h n b none at = elim (outcome schema s c t made h) [
   | inl m ↦ elim (put_from s.rows (suc s.given) m.row n b (sym (ap (λ (q : State). row_at q.rows n) m.after) ∙ at)) [
     | inl put ↦ (m.number ∙ ap Some put.0, sym put.0, ap (λ (q : State). q.given) m.after ∙ put.0)
@@ -64,7 +66,8 @@ command_given schema s c t made h = elim (outcome schema s c t made h) [
 ]
 
 -- a row that stays is as it was, or what the command makes of it
-row_after : (schema : Schema) (s : State) (c : Command) (t : State) (made : Option ℕ) → IsKept schema s → do_command schema s c ≡ Ok (t, made) → (n : ℕ) (a b : Row) → row_at s.rows n ≡ Some a → row_at t.rows n ≡ Some b → (b ≡ a) ⊎ (b ≡ edited c (next_item s n) a)
+row_after : (schema : Schema) (s : State) (c : Command) (t : State) (made : Option ℕ) → IsKept schema s → do_command schema s c ≡ Ok (t, made) → (n : ℕ) (a b : Row) → row_at s.rows n ≡ Some a
+    → row_at t.rows n ≡ Some b → (b ≡ a) ⊎ (b ≡ edited c (next_item s n) a)
 row_after schema s c t made kept h n a b was is = elim (outcome schema s c t made h) [
   | inl m ↦
       let stays = ap (λ (q : State). row_at q.rows n) m.after ∙ stands_beside s.rows (suc s.given) m.row n a (next_free schema s kept) was in
@@ -91,7 +94,8 @@ command_counts schema s c t made kept h n = elim (outcome schema s c t made h) [
 ]
 
 -- an item number of a row that stays was one of it, or is the next
-pub command_numbers : (schema : Schema) (s : State) (c : Command) (t : State) (made : Option ℕ) → IsKept schema s → do_command schema s c ≡ Ok (t, made) → (n : ℕ) (a b : Row) (k : ℕ) → row_at s.rows n ≡ Some a → row_at t.rows n ≡ Some b → is_among k (item_numbers b) ≡ true → (is_among k (item_numbers a) ≡ true) ⊎ (k ≡ next_item s n)
+pub command_numbers : (schema : Schema) (s : State) (c : Command) (t : State) (made : Option ℕ) → IsKept schema s → do_command schema s c ≡ Ok (t, made) → (n : ℕ) (a b : Row) (k : ℕ)
+    → row_at s.rows n ≡ Some a → row_at t.rows n ≡ Some b → is_among k (item_numbers b) ≡ true → (is_among k (item_numbers a) ≡ true) ⊎ (k ≡ next_item s n)
 command_numbers schema s c t made kept h n a b k was is there = elim (row_after schema s c t made kept h n a b was is) [
   | inl same ↦ inl (ap (λ r. is_among k (item_numbers r)) (sym same) ∙ there)
   | inr new ↦ elim (edited_numbers c (next_item s n) a k (ap (λ r. is_among k (item_numbers r)) (sym new) ∙ there)) [ inl old ↦ inl old | inr next ↦ inr next.0 ]
@@ -103,13 +107,15 @@ new_number key k next xs ys y none some from =
     elim (from (list_any-keys key ys k ∙ ap is_some some)) [ inl old ↦ let gone : is_among k (map key xs) ≡ false = list_any-keys key xs k ∙ ap is_some none in cc | inr new ↦ new ]
 
 -- a new item of a map has the next number
-pub command_items : (schema : Schema) (s : State) (c : Command) (t : State) (made : Option ℕ) → IsKept schema s → do_command schema s c ≡ Ok (t, made) → (n : ℕ) (home other : Home) (is js : List MapItem) (k : ℕ) (j : MapItem) → row_at s.rows n ≡ Some (Map home is) → row_at t.rows n ≡ Some (Map other js)
+pub command_items : (schema : Schema) (s : State) (c : Command) (t : State) (made : Option ℕ) → IsKept schema s → do_command schema s c ≡ Ok (t, made)
+    → (n : ℕ) (home other : Home) (is js : List MapItem) (k : ℕ) (j : MapItem) → row_at s.rows n ≡ Some (Map home is) → row_at t.rows n ≡ Some (Map other js)
     → find (λ (i : MapItem). i.number) k is ≡ None → find (λ (i : MapItem). i.number) k js ≡ Some j → k ≡ next_item s n
 command_items schema s c t made kept h n home other is js k j was at none some =
     new_number (λ (i : MapItem). i.number) k (next_item s n) is js j none some (command_numbers schema s c t made kept h n (Map home is) (Map other js) k was at)
 
 -- so has a new item of a set
-pub command_set_items : (schema : Schema) (s : State) (c : Command) (t : State) (made : Option ℕ) → IsKept schema s → do_command schema s c ≡ Ok (t, made) → (n : ℕ) (home other : Home) (is js : List SetItem) (k : ℕ) (j : SetItem) → row_at s.rows n ≡ Some (Set home is) → row_at t.rows n ≡ Some (Set other js)
+pub command_set_items : (schema : Schema) (s : State) (c : Command) (t : State) (made : Option ℕ) → IsKept schema s → do_command schema s c ≡ Ok (t, made)
+    → (n : ℕ) (home other : Home) (is js : List SetItem) (k : ℕ) (j : SetItem) → row_at s.rows n ≡ Some (Set home is) → row_at t.rows n ≡ Some (Set other js)
     → find (λ (i : SetItem). i.number) k is ≡ None → find (λ (i : SetItem). i.number) k js ≡ Some j → k ≡ next_item s n
 command_set_items schema s c t made kept h n home other is js k j was at none some =
     new_number (λ (i : SetItem). i.number) k (next_item s n) is js j none some (command_numbers schema s c t made kept h n (Set home is) (Set other js) k was at)
@@ -125,7 +131,8 @@ same_key : (is js : List MapItem) (k : ℕ) (i j : MapItem) → is ≡ js → fi
 same_key is js k i j same a b = ap (λ (x : MapItem). x.key) (same_Some j i (sym b ∙ ap (find number_in k) (sym same) ∙ a))
 
 -- an item that stays keeps its key, whatever a command makes of its map
-edited_keys : (c : Command) (next : ℕ) (home other : Home) (is js : List MapItem) (k : ℕ) (i j : MapItem) → RisesFrom number_in 0 is → Map other js ≡ edited c next (Map home is) → find number_in k is ≡ Some i → find number_in k js ≡ Some j → j.key ≡ i.key
+edited_keys : (c : Command) (next : ℕ) (home other : Home) (is js : List MapItem) (k : ℕ) (i j : MapItem) → RisesFrom number_in 0 is → Map other js ≡ edited c next (Map home is)
+    → find number_in k is ≡ Some i → find number_in k js ≡ Some j → j.key ≡ i.key
 edited_keys (PutKey r key v) next home other is js k i j rise e a b =
     key_stays next key v is k i j a (ap (find number_in k) (sym (same_items other home js (put_key next key v is) e)) ∙ b)
 edited_keys (DelKey r key) next home other is js k i j rise e a b =
@@ -144,7 +151,8 @@ map_rises schema rows home is own =
     rises_where number_in is (and_parts numbers keys (and_parts (numbers && keys) all own.fits).0).0
 
 -- an item that stays keeps its key
-pub command_keys : (schema : Schema) (s : State) (c : Command) (t : State) (made : Option ℕ) → IsKept schema s → do_command schema s c ≡ Ok (t, made) → (n : ℕ) (home other : Home) (is js : List MapItem) (k : ℕ) (i j : MapItem) → row_at s.rows n ≡ Some (Map home is) → row_at t.rows n ≡ Some (Map other js)
+pub command_keys : (schema : Schema) (s : State) (c : Command) (t : State) (made : Option ℕ) → IsKept schema s → do_command schema s c ≡ Ok (t, made)
+    → (n : ℕ) (home other : Home) (is js : List MapItem) (k : ℕ) (i j : MapItem) → row_at s.rows n ≡ Some (Map home is) → row_at t.rows n ≡ Some (Map other js)
     → find (λ (x : MapItem). x.number) k is ≡ Some i → find (λ (x : MapItem). x.number) k js ≡ Some j → j.key ≡ i.key
 command_keys schema s c t made kept h n home other is js k i j was at a b = elim (row_after schema s c t made kept h n (Map home is) (Map other js) was at) [
   | inl same ↦ same_key is js k i j (sym (same_items other home js is same)) a b

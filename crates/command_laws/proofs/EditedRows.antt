@@ -8,6 +8,7 @@ use Rattle.std.proofs.lemmas.List.{map-append}
 use Rattle.std.proofs.lemmas.List.Folds.{list_any-append, list_all-append}
 use Rattle.lists.specs.Rising as rising
 use Rattle.lists.proofs.RisingLaws.{RisesFrom-put, RisesFrom-filter, RisesFrom-push}
+use Rattle.lists.proofs.Passing.{list_any_put, list_all_put, list_all_filtered, list_any_filtered, list_any-flat_map, list_any-map, list_any-made}
 use Rattle.schema_model.specs.declared.value.Value.{Value}
 use Rattle.schema_model.specs.declared.value.Value.TheVariants as value
 use Rattle.schema_model.specs.Values.{same_value}
@@ -26,13 +27,11 @@ use Rattle.state_model.specs.Places.{field_expects, item_expects, is_filtered}
 use Rattle.state_model.specs.Reached.{is_among}
 use Rattle.state_model.specs.Sound.{rise, differ, keys_differ, fits_place, places_fit, set_differs}
 use Rattle.state_model.specs.Commands.{value_put, expected_for, is_duplicate, has_key, has_value, put_key, gives_number, edited, counts_items}
-use Rattle.state_laws.proofs.Passing.{list_any-flat_map}
-use Rattle.state_laws.proofs.Tests.{list_any-map, list_any-made, list_any_filtered, list_all_filtered}
 use Rattle.state_laws.proofs.ShownRows.{holds}
 use Rattle.state_laws.proofs.FittingRows.{rises_where, rise_where, keys_filtered}
 use Rattle.state_laws.proofs.SameValues.{same_value_sym}
 use Rattle.command_laws.specs.Kept.{item_numbers}
-use Rattle.command_laws.proofs.ListEdits.{list_any_put, list_all_put, list_any_set, list_all_set, list_any_removed, list_all_removed, differ_pushed, differ_set, differ_removed, differ_kept}
+use Rattle.command_laws.proofs.ListEdits.{list_any_set, list_all_set, list_any_removed, list_all_removed, differ_pushed, differ_set, differ_removed, differ_kept}
 use Rattle.command_laws.proofs.KeyedItems.{key_of, number_in, above_numbers, list_any_value_put, list_all_value_put, list_any_number-put_key, RisesFrom-put_key, keys_differ_put}
 
 -- the parts of fields and of a set's items
@@ -92,7 +91,8 @@ held_or f m v xs ys from h =
       | inr there ↦ inl (list_any-made (λ k. k == m) held_by f xs ∙ there)
     ]
 
-held_less : {X : Type 0} (f : X → Value) (m : ℕ) (xs ys : List X) → (list_any (λ x. holds m (f x)) ys ≡ true → list_any (λ x. holds m (f x)) xs ≡ true) → is_among m (flat_map held_by (map f ys)) ≡ true → is_among m (flat_map held_by (map f xs)) ≡ true
+held_less : {X : Type 0} (f : X → Value) (m : ℕ) (xs ys : List X) → (list_any (λ x. holds m (f x)) ys ≡ true → list_any (λ x. holds m (f x)) xs ≡ true) → is_among m (flat_map held_by (map f ys)) ≡ true
+    → is_among m (flat_map held_by (map f xs)) ≡ true
 held_less f m xs ys from h = list_any-made (λ k. k == m) held_by f xs ∙ from (sym (list_any-made (λ k. k == m) held_by f ys) ∙ h)
 
 -- the same of values
@@ -236,7 +236,8 @@ rise_again : {X : Type 0} (f : X → ℕ) (xs ys : List X) → (rising.RisesFrom
 rise_again f xs ys from h = rise_where f 0 ys (from (rises_where f xs h))
 
 -- the places of the row fit after the change
-pub edited_fits : (schema : Schema) (rows : List RowEntry) (c : Command) (next : ℕ) (row : Row) → ((v : Value) → value_put c ≡ Some v → fits_place schema rows v (expected_for schema c (Some row)) ≡ true) → is_duplicate schema c (Some row) ≡ false → ((k : ℕ) → is_among k (item_numbers row) ≡ true → k < next)
+pub edited_fits : (schema : Schema) (rows : List RowEntry) (c : Command) (next : ℕ) (row : Row) → ((v : Value) → value_put c ≡ Some v → fits_place schema rows v (expected_for schema c (Some row)) ≡ true)
+    → is_duplicate schema c (Some row) ≡ false → ((k : ℕ) → is_among k (item_numbers row) ≡ true → k < next)
     → places_fit schema rows row ≡ true → places_fit schema rows (edited c next row) ≡ true
 edited_fits schema rows (Put r f v) next (Struct class fields) put d n h =
     let p = λ (x : FieldValue). fits_place schema rows x.value (field_expects schema class x.field) in

@@ -58,7 +58,8 @@ count_no_less b who count counts h n = rw (count_after b who count counts n) (by
     by_test false e = omega arith
 
 -- a row has a count exactly where it is a map or a set, with the row and its count put
-pub counted_after : (rows : List RowEntry) (b : Bool) (who count : ℕ) (counts : List ItemCount) (row : Row) → ((n : ℕ) → is_some (find who_of n counts) ≡ option_map_or counts_items (row_at rows n) false) → (b || option_map_or counts_items (row_at rows who) false) ≡ counts_items row
+pub counted_after : (rows : List RowEntry) (b : Bool) (who count : ℕ) (counts : List ItemCount) (row : Row) → ((n : ℕ) → is_some (find who_of n counts) ≡ option_map_or counts_items (row_at rows n) false)
+    → (b || option_map_or counts_items (row_at rows who) false) ≡ counts_items row
     → (n : ℕ) → is_some (find who_of n (counts_with b who count counts)) ≡ option_map_or counts_items (row_at (put_row who row rows) n) false
 counted_after rows b who count counts row old own n =
     ap is_some (find_count b who count counts n) ∙ by_test (who == n) refl ∙ ap (λ o. option_map_or counts_items o false) (sym (row_put rows who row n))

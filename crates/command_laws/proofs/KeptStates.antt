@@ -27,7 +27,8 @@ use Rattle.command_laws.proofs.ChangedRows.{after_row, changed_may}
 pub command_keeps : (schema : Schema) (s : State) (c : Command) (t : State) (made : Option ℕ) → is_kept schema ≡ true → IsKept schema s → do_command schema s c ≡ Ok (t, made) → IsKept schema t
 command_keeps schema s c t made limits kept h = elim (outcome schema s c t made h) [
   | inl m ↦ subst (λ (q : State). IsKept schema q) (sym m.after) (put_kept schema s (suc s.given) m.row (suc s.given) (counts_items m.row) 0 kept (new_may schema s m.row kept m.new))
-  | inr d ↦ subst (λ (q : State). IsKept schema q) (sym d.after) (put_kept schema s d.holder (after_row s c d.holder d.row) s.given (gives_number c (Some d.row)) (suc (next_item s d.holder)) kept (changed_may schema s c d.holder d.row kept d.names d.stands d.free))
+  | inr d ↦ subst (λ (q : State). IsKept schema q) (sym d.after)
+      (put_kept schema s d.holder (after_row s c d.holder d.row) s.given (gives_number c (Some d.row)) (suc (next_item s d.holder)) kept (changed_may schema s c d.holder d.row kept d.names d.stands d.free))
 ]
 
 -- the root class of a schema within its limits is one of its classes
@@ -50,7 +51,8 @@ root_row schema n r h = by_test (0 == n) h
 -- the new state is kept
 pub new_state_kept : (schema : Schema) → is_kept schema ≡ true → IsKept schema (new_state schema)
 new_state_kept schema h = record {
-  sound = sound_from schema (root_alone schema) (omega arith, tt) (grind (arith, nat_tests)) (λ n r at. subst (λ (q : Row). IsSoundRow schema (root_alone schema) q) (sym (root_row schema n r at)) (record { kind = root_declared schema h; fits = refl; differs = refl }));
+  sound = sound_from schema (root_alone schema) (omega arith, tt) (grind (arith, nat_tests))
+      (λ n r at. subst (λ (q : Row). IsSoundRow schema (root_alone schema) q) (sym (root_row schema n r at)) (record { kind = root_declared schema h; fits = refl; differs = refl }));
   acyclic = refl;
   given = λ n t. grind (arith, nat_tests);
   counts_rise = tt;

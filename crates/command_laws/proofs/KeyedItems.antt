@@ -45,7 +45,8 @@ list_all_value_put q next key v [] t h = grind (arith, nat_tests)
 list_all_value_put q next key v (i ∷ items) t h = grind (arith, nat_tests, list_all_value_put q next key v items)
 
 -- a test of numbers
-pub list_any_number-put_key : (q : ℕ → Bool) (next : ℕ) (key : List ℕ) (v : Value) (items : List MapItem) → list_any (λ (i : MapItem). q i.number) (put_key next key v items) ≡ (list_any (λ (i : MapItem). q i.number) items || (not (has_key items key) && q next))
+pub list_any_number-put_key : (q : ℕ → Bool) (next : ℕ) (key : List ℕ) (v : Value) (items : List MapItem)
+    → list_any (λ (i : MapItem). q i.number) (put_key next key v items) ≡ (list_any (λ (i : MapItem). q i.number) items || (not (has_key items key) && q next))
 list_any_number-put_key q next key v [] = grind (arith, nat_tests)
 list_any_number-put_key q next key v (i ∷ items) = grind (arith, nat_tests, list_any_number-put_key q next key v items)
 
@@ -69,7 +70,8 @@ keys_differ_put next key v (i ∷ items) h =
       | true ↦ λ t. ap (λ is. keys_differ (map key_of is)) (kept_item next key v i items t) ∙ h
       | false ↦ λ f.
           let off = other_key i.key next key v items f (not-true (list_any (bytes_eq i.key) (map key_of items)) two.0) in
-          ap (λ is. keys_differ (map key_of is)) (other_item next key v i items f) ∙ and_from (not (list_any (bytes_eq i.key) (map key_of (put_key next key v items)))) (keys_differ (map key_of (put_key next key v items))) (ap not off) (keys_differ_put next key v items two.1)
+          ap (λ is. keys_differ (map key_of is)) (other_item next key v i items f)
+          ∙ and_from (not (list_any (bytes_eq i.key) (map key_of (put_key next key v items)))) (keys_differ (map key_of (put_key next key v items))) (ap not off) (keys_differ_put next key v items two.1)
     ] in
     go (bytes_eq i.key key) refl
 

@@ -3,6 +3,7 @@ use Rattle.std.proofs.Common.{◌≡◌, ◌⊎◌, inl, inr, ℕ, ◌<◌, ◌�
 use Rattle.std.specs.Option.{option_map_or}
 use Rattle.lists.specs.Rising.{find}
 use Rattle.lists.proofs.RisingLaws.{list_any-keys}
+use Rattle.lists.proofs.Options.{some_there}
 use Rattle.schema_model.specs.Classes.{Schema}
 use Rattle.schema_model.specs.declared.place.Home.{Home}
 use Rattle.state_model.specs.declared.row.Row.{Row}
@@ -23,10 +24,6 @@ item_number x = x.number
 -- a number is among those of the items where an item is found under it
 found_among : (k : ℕ) (home : Home) (is : List MapItem) (i : MapItem) → find item_number k is ≡ Some i → is_among k (item_numbers (Map home is)) ≡ true
 found_among k home is i h = list_any-keys item_number is k ∙ ap is_some h
-
-some_there : {X : Type 0} (o : Option X) → is_some o ≡ true → (x : X) × (o ≡ Some x)
-some_there None h = absurd (cc)
-some_there (Some x) h = (x, refl)
 
 -- and an item is found under a number that is among them
 among_found : (k : ℕ) (home : Home) (is : List MapItem) → is_among k (item_numbers (Map home is)) ≡ true → (i : MapItem) × (find item_number k is ≡ Some i)

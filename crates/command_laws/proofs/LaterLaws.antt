@@ -1,6 +1,7 @@
 -- What stays of a state: over an accepted command, over a sweep, and where nothing changed.
 use Rattle.std.proofs.Common.{◌≡◌, ◌⊎◌, inl, inr, ℕ, ◌≤◌, List, Option, Some, None, Ok, sym, ap, ◌∙◌, arith}
 use Rattle.lists.specs.Rising.{find}
+use Rattle.lists.proofs.Options.{same_some}
 use Rattle.schema_model.specs.Classes.{Schema}
 use Rattle.schema_model.specs.declared.place.Home.{Home}
 use Rattle.state_model.specs.declared.row.Row.{Row}
@@ -17,9 +18,6 @@ use Rattle.command_laws.proofs.CommandLaws.{command_counts, command_given, comma
 use Rattle.command_laws.proofs.SoundRows.{sound_rises}
 use Rattle.command_laws.proofs.SweptStates.{sweep_next, sweep_rows}
 use Rattle.command_laws.specs.Later.{IsLater}
-
-same_row : (a b : Row) → Some a ≡ Some b → a ≡ b
-same_row a b h = cc
 
 -- an item that is found twice in the items of one row has one key
 one_key : (k : ℕ) (home other : Home) (is js : List MapItem) (i j : MapItem) → Map home is ≡ Map other js → find (λ (x : MapItem). x.number) k is ≡ Some i → find (λ (x : MapItem). x.number) k js ≡ Some j → j.key ≡ i.key
@@ -41,7 +39,7 @@ rows_stay s t within given counts = record {
 }
   where
     one : (n : ℕ) (a b : Row) → row_at s.rows n ≡ Some a → row_at t.rows n ≡ Some b → b ≡ a
-    one n a b was is = same_row b a (sym (within n b is) ∙ was)
+    one n a b was is = same_some b a (sym (within n b is) ∙ was)
 
 -- nothing changed
 pub later_same : (s : State) → IsLater s s
@@ -58,7 +56,7 @@ pub later_command : (schema : Schema) (s : State) (c : Command) (t : State) (mad
 later_command schema s c t made kept h = record {
   kinds = λ n a b was is.
       let after = command_kinds schema s c t made kept h n a was in
-      ap emptied (same_row b after.0 (sym is ∙ after.1)) ∙ after.2;
+      ap emptied (same_some b after.0 (sym is ∙ after.1)) ∙ after.2;
   fresh = λ n b none is. let new = command_new schema s c t made h n b none is in omega (arith, new.1);
   given = command_given schema s c t made h;
   items = λ n k a b was is there. next k n (command_numbers schema s c t made kept h n a b k was is there);

@@ -3,7 +3,7 @@ use Rattle.std.proofs.Common.{◌≡◌, ℕ, Bool, true, false, cond, ◌&&◌,
 use Rattle.std.specs.Option.{option_map}
 use Rattle.std.proofs.lemmas.Bool.Decides.{nat_tests}
 use Rattle.lists.specs.Rising.{RisesFrom, find}
-use Rattle.lists.proofs.RisingLaws.{find-put, RisesFrom-put}
+use Rattle.lists.proofs.RisingLaws.{find-put}
 use Rattle.state_model.specs.declared.row.Row.{Row}
 use Rattle.state_model.specs.declared.row.RowEntry.{RowEntry}
 use Rattle.state_model.specs.Rows.{number_of, row_at, is_live, held_in, put_row}
@@ -22,10 +22,6 @@ pub row_put : (rows : List RowEntry) (who : ℕ) (row : Row) (n : ℕ) → row_a
 row_put rows who row n =
     let value = λ (e : RowEntry). e.row in
     ap (option_map value) (find-put number_of (entry who row) rows n) ∙ map_test value (who == n) (entry who row) (find number_of n rows)
-
--- rows with one put rise where they did
-pub put_rises : (rows : List RowEntry) (who : ℕ) (row : Row) → RisesFrom number_of 0 rows → RisesFrom number_of 0 (put_row who row rows)
-put_rises rows who row rise = RisesFrom-put number_of 0 (entry who row) rows rise (omega arith)
 
 some_or : (b : Bool) (a : Row) (o : Option Row) → is_some (cond b (Some a) o) ≡ (b || is_some o)
 some_or true a o = refl

@@ -4,24 +4,13 @@ use Rattle.std.specs.List.{list_any, list_all, remove}
 use Rattle.std.proofs.lemmas.Bool.{and_parts, and_from, or_parts, not-true}
 use Rattle.std.proofs.lemmas.Bool.Decides.{nat_tests}
 use Rattle.std.proofs.lemmas.List.Folds.{list_any-append}
-use Rattle.lists.specs.Rising.{put}
+use Rattle.lists.proofs.Passing.{list_any_filtered, list_any-map}
 use Rattle.schema_model.specs.declared.value.Value.{Value}
 use Rattle.schema_model.specs.Values.{same_value}
 use Rattle.state_model.specs.Sound.{differ}
 use Rattle.state_laws.proofs.SameValues.{same_value_sym}
-use Rattle.state_laws.proofs.Tests.{list_any-map, list_any_filtered}
 
 -- an item put by its key
-
--- what passes after it is that item, or passed before
-pub list_any_put : {E : Type 0} (key : E → ℕ) (p : E → Bool) (x : E) (es : List E) → list_any p (put key x es) ≡ true → (p x || list_any p es) ≡ true
-list_any_put key p x [] h = h
-list_any_put key p x (e ∷ es) h = grind (arith, nat_tests, list_any_put key p x es)
-
--- where all pass, so do all after it
-pub list_all_put : {E : Type 0} (key : E → ℕ) (p : E → Bool) (x : E) (es : List E) → p x ≡ true → list_all p es ≡ true → list_all p (put key x es) ≡ true
-list_all_put key p x [] t h = grind (arith, nat_tests)
-list_all_put key p x (e ∷ es) t h = grind (arith, nat_tests, list_all_put key p x es)
 
 -- an item set at a place
 

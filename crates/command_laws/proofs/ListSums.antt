@@ -7,6 +7,7 @@ use Rattle.std.proofs.lemmas.List.Sums.{sum_by-cons, sum_by-append, sum_by-set, 
 use Rattle.std.proofs.lemmas.Option.{slice_get-get_or}
 use Rattle.lists.specs.Rising as rising
 use Rattle.lists.proofs.RisingLaws.{find_below}
+use Rattle.lists.proofs.Passing.{filter_keeps}
 
 -- a sum over what a function makes of the items
 pub sum_by-map : {X Y : Type 0} (w : Y → ℕ) (g : X → Y) (xs : List X) → sum_by w (map g xs) ≡ sum_by (λ x. w (g x)) xs
@@ -31,22 +32,27 @@ weight-map w g (Some x) = refl
 -- an item put by its key
 pub sum_by-put : {E : Type 0} (key w : E → ℕ) (low : ℕ) (x : E) (es : List E) → rising.RisesFrom key low es → sum_by w (rising.put key x es) + option_map_or w (rising.find key (key x) es) 0 ≡ sum_by w es + w x
 sum_by-put key w low x [] r = omega (arith, sum_by-cons w x [])
-sum_by-put key w low x (e ∷ es) r = grind (arith, nat_tests, find_below key (suc (key e)) es (key x) r.1, sum_by-cons w e es, sum_by-cons w x es, sum_by-cons w x (e ∷ es), sum_by-cons w e (rising.put key x es), sum_by-put key w (suc (key e)) x es r.1)
+sum_by-put key w low x (e ∷ es) r = grind (
+  arith,
+  nat_tests,
+  find_below key (suc (key e)) es (key x) r.1,
+  sum_by-cons w e es,
+  sum_by-cons w x es,
+  sum_by-cons w x (e ∷ es),
+  sum_by-cons w e
+      (rising.put key x es),
+  sum_by-put key w (suc (key e)) x es r.1,
+)
 
 -- at most one item passes a test
 abbrev pub IsSingle : {X : Type 0} → (X → Bool) → List X → Type 0
 IsSingle p [] = Unit {0}
 IsSingle p (x ∷ xs) = (p x ≡ true → list_any p xs ≡ false) × IsSingle p xs
 
--- where no item passes a test, all stay without those that pass, and none is found
-filter_none : {X : Type 0} (p : X → Bool) (xs : List X) → list_any p xs ≡ false → filter (λ x. not (p x)) xs ≡ xs
-filter_none p [] h = refl
-filter_none p (x ∷ xs) h = grind (arith, nat_tests, filter_none p xs)
-
 -- the one item that passes a test taken out
 pub sum_by-single : {X : Type 0} (p : X → Bool) (w : X → ℕ) (xs : List X) → IsSingle p xs → sum_by w (filter (λ x. not (p x)) xs) + option_map_or w (find p xs) 0 ≡ sum_by w xs
 sum_by-single p w [] s = refl
-sum_by-single p w (x ∷ xs) s = grind (arith, nat_tests, s.0, filter_none p xs, sum_by-cons w x xs, sum_by-cons w x (filter (λ x. not (p x)) xs), sum_by-single p w xs s.1)
+sum_by-single p w (x ∷ xs) s = grind (arith, nat_tests, s.0, filter_keeps p xs, sum_by-cons w x xs, sum_by-cons w x (filter (λ x. not (p x)) xs), sum_by-single p w xs s.1)
 
 -- the item of a key taken out
 pub sum_by-remove_key : {E : Type 0} (key w : E → ℕ) (low k : ℕ) (es : List E) → rising.RisesFrom key low es → sum_by w (rising.remove key k es) + option_map_or w (rising.find key k es) 0 ≡ sum_by w es

@@ -12,22 +12,16 @@ use Rattle.state_model.specs.Reached.{is_among, HasNoCycle}
 use Rattle.state_model.specs.Sound.{places_fit, set_differs}
 use Rattle.state_model.specs.State.{State, ItemCount, next_item}
 use Rattle.state_model.specs.Commands.{counts_items}
-use Rattle.state_laws.proofs.Numbers.{live_at}
+use Rattle.state_laws.proofs.Numbers.{live_at, put_rises}
 use Rattle.state_laws.proofs.PermittedLaws.{no_cycle_within}
-use Rattle.state_laws.proofs.Fitting.{emptied_holds}
+use Rattle.state_laws.proofs.Fitting.{emptied_holds, emptied_fits}
 use Rattle.command_laws.specs.Kept.{item_numbers, IsKept}
 use Rattle.command_laws.proofs.Accepted.{IsNew}
-use Rattle.command_laws.proofs.LinkedRows.{row_put, put_rises, put_from}
+use Rattle.command_laws.proofs.LinkedRows.{row_put, put_from}
 use Rattle.command_laws.proofs.SoundRows.{sound_rises}
 use Rattle.command_laws.proofs.PutRows.{MayPut}
 
 -- a row without places: its places fit, its values differ, it holds nothing and has no item numbers
-
-new_fits : (schema : Schema) (rows : List RowEntry) (r : Row) → places_fit schema rows (emptied r) ≡ true
-new_fits schema rows (Struct class fields) = refl
-new_fits schema rows (Map home items) = refl
-new_fits schema rows (Array home values) = grind (arith, nat_tests)
-new_fits schema rows (Set home items) = refl
 
 new_differs : (r : Row) → set_differs (emptied r) ≡ true
 new_differs (Struct class fields) = refl
@@ -85,7 +79,7 @@ new_may schema s row kept new =
     let free = next_free schema s kept in
     record {
       stay = λ n a at. (a, stands_beside s.rows (suc s.given) row n a free at, refl);
-      new = record { kind = new.kind; fits = ap (places_fit schema s.rows) (sym new.empty) ∙ new_fits schema s.rows row; differs = ap set_differs (sym new.empty) ∙ new_differs row };
+      new = record { kind = new.kind; fits = ap (places_fit schema s.rows) (sym new.empty) ∙ emptied_fits schema s.rows row; differs = ap set_differs (sym new.empty) ∙ new_differs row };
       acyclic = new_acyclic schema s row kept new;
       more = omega arith;
       within = omega arith;

@@ -35,7 +35,8 @@ live_given s who given row old more within n h =
     ]
 
 -- item numbers are below the next one
-put_items : (s : State) (who : ℕ) (row : Row) (b : Bool) (count : ℕ) → ((n : ℕ) (r : Row) → row_at s.rows n ≡ Some r → (k : ℕ) → is_among k (item_numbers r) ≡ true → k < next_item s n) → next_item s who ≤ count → ((k : ℕ) → is_among k (item_numbers row) ≡ true → k < count_at (counts_with b who count s.counts) who)
+put_items : (s : State) (who : ℕ) (row : Row) (b : Bool) (count : ℕ) → ((n : ℕ) (r : Row) → row_at s.rows n ≡ Some r → (k : ℕ) → is_among k (item_numbers r) ≡ true → k < next_item s n)
+    → next_item s who ≤ count → ((k : ℕ) → is_among k (item_numbers row) ≡ true → k < count_at (counts_with b who count s.counts) who)
     → (n : ℕ) (r : Row) → row_at (put_row who row s.rows) n ≡ Some r → (k : ℕ) → is_among k (item_numbers r) ≡ true → k < count_at (counts_with b who count s.counts) n
 put_items s who row b count old less own n r at k h =
     elim (put_from s.rows who row n r at) [
@@ -49,7 +50,8 @@ put_items s who row b count old less own n r at k h =
     ]
 
 -- a state with that row and that count keeps what the state did
-pub put_kept : (schema : Schema) (s : State) (who : ℕ) (row : Row) (given : ℕ) (b : Bool) (count : ℕ) → IsKept schema s → MayPut schema s who row given b count → IsKept schema (record { rows = put_row who row s.rows; given = given; counts = counts_with b who count s.counts })
+pub put_kept : (schema : Schema) (s : State) (who : ℕ) (row : Row) (given : ℕ) (b : Bool) (count : ℕ) → IsKept schema s → MayPut schema s who row given b count
+    → IsKept schema (record { rows = put_row who row s.rows; given = given; counts = counts_with b who count s.counts })
 put_kept schema s who row given b count kept may = record {
   sound = put_sound schema s.rows who row kept.sound may.stay may.new;
   acyclic = may.acyclic;

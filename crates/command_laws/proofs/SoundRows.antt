@@ -4,18 +4,18 @@ use Rattle.std.specs.List.{list_all}
 use Rattle.std.specs.Option.{option_map_or}
 use Rattle.std.proofs.lemmas.Bool.{and_parts, and_from}
 use Rattle.lists.specs.Rising.{RisesFrom}
+use Rattle.lists.proofs.Passing.{all-found, found-all}
 use Rattle.schema_model.specs.Classes.{Schema}
 use Rattle.state_model.specs.declared.row.Row.{Row}
 use Rattle.state_model.specs.declared.row.RowEntry.{RowEntry}
 use Rattle.state_model.specs.Rows.{number_of, row_at, is_live, held_in, put_row, emptied}
 use Rattle.state_model.specs.Reached.{is_among}
 use Rattle.state_model.specs.Sound.{rise, has_root, has_kind, places_fit, set_differs, are_rows_of, are_sound}
-use Rattle.state_laws.proofs.Numbers.{at_live, entry, row_found, found_row}
-use Rattle.state_laws.proofs.Tests.{all-found, found-all}
+use Rattle.state_laws.proofs.Numbers.{at_live, entry, row_found, found_row, put_rises}
 use Rattle.state_laws.proofs.Fitting.{OneKind, same_class}
 use Rattle.state_laws.proofs.FittingRows.{rise_where, places_fit_elsewhere, held_live}
 use Rattle.state_laws.proofs.RowsOf.{rows_rise, rows_fit, rows_links, rows_root}
-use Rattle.command_laws.proofs.LinkedRows.{put_from, put_rises}
+use Rattle.command_laws.proofs.LinkedRows.{put_from}
 
 -- a row is of a declared kind, its places fit over these rows, and where it is a set its values differ
 pub record IsSoundRow (schema : Schema) (rows : List RowEntry) (r : Row) : Type 0 where
@@ -94,6 +94,7 @@ put_sound schema rows who row h stay new =
     let some = put_row who row rows in
     let root = sound_root schema rows h in
     let there = stay 0 root.0 root.1 in
-    let own : (n : ℕ) (r : Row) → row_at some n ≡ Some r → IsSoundRow schema rows r = λ n r s. elim (put_from rows who row n r s) [ inl put ↦ subst (λ (q : Row). IsSoundRow schema rows q) (sym put.1) new | inr old ↦ sound_row schema rows h n r old ] in
+    let own : (n : ℕ) (r : Row) → row_at some n ≡ Some r → IsSoundRow schema rows r =
+    λ n r s. elim (put_from rows who row n r s) [ inl put ↦ subst (λ (q : Row). IsSoundRow schema rows q) (sym put.1) new | inr old ↦ sound_row schema rows h n r old ] in
     sound_from schema some (put_rises rows who row (sound_rises schema rows h)) (ap (has_root schema) there.1 ∙ root_again schema root.0 there.0 there.2 root.2)
     (λ n r s. sound_elsewhere schema rows some r (one_kind schema rows some r stay (own n r s)) (own n r s))

@@ -6,6 +6,7 @@ use Rattle.std.specs.Option.{option_map_or}
 use Rattle.std.specs.Str.{bytes_eq, is_utf8}
 use Rattle.std.proofs.lemmas.Bool.{and_parts, and_from, or_parts, not-false, cond_both}
 use Rattle.std.proofs.lemmas.Bool.Decides.{nat_tests}
+use Rattle.lists.proofs.Passing.{list_all_put, list_all_filtered, all-found}
 use Rattle.schema_model.specs.declared.value.Value.{Value}
 use Rattle.schema_model.specs.declared.value.Value.TheVariants as value
 use Rattle.schema_model.specs.Classes.{Schema}
@@ -26,13 +27,12 @@ use Rattle.state_model.specs.State.{State, next_item, swept, places_limit, last_
 use Rattle.state_model.specs.Commands.{value_put, has_key, has_value, put_key, gives_number, edited, is_no_ref, is_long_text, is_long_key, holder_of, makes_row, do_command}
 use Rattle.state_model.specs.Spelled.{is_count, is_spelled_value, is_spelled_key, is_spelled_row, are_spelled}
 use Rattle.state_laws.proofs.Numbers.{entry, row_found, at_live}
-use Rattle.state_laws.proofs.Tests.{all-found, list_all_filtered}
 use Rattle.command_laws.specs.Kept.{IsKept}
 use Rattle.state_model.specs.Worded.{is_worded_command, key_put}
 use Rattle.command_laws.proofs.Accepted.{IsAccepted, IsNew, outcome}
 use Rattle.command_laws.proofs.ChangedRows.{after_row}
 use Rattle.command_laws.proofs.EditedRows.{field_in, set_item, list_all_pushed}
-use Rattle.command_laws.proofs.ListEdits.{list_all_put, list_all_set, list_all_removed}
+use Rattle.command_laws.proofs.ListEdits.{list_all_set, list_all_removed}
 use Rattle.command_laws.proofs.RowSums.{put_row_places, removed_row_places}
 use Rattle.command_laws.proofs.SoundRows.{sound_rises}
 

@@ -140,7 +140,8 @@ count_held_none rows rise k none =
 -- the rows that are left are those of the rows whose numbers are left
 pub freed_filter : (rows : List RowEntry) → rising.RisesFrom number_of 0 rows → freed rows ≡ filter (λ (e : RowEntry). is_live (freed rows) e.who) rows
 freed_filter rows rise =
-    same_rows (freed rows) (filter (λ (e : RowEntry). is_live (freed rows) e.who) rows) (freed_rises rows rise) (RisesFrom-filter number_of 0 (λ (e : RowEntry). is_live (freed rows) e.who) rows rise) (λ n. sym (row_chosen (is_live (freed rows)) rows n ∙ left_at n (row_at (freed rows) n) refl))
+    same_rows (freed rows) (filter (λ (e : RowEntry). is_live (freed rows) e.who) rows) (freed_rises rows rise) (RisesFrom-filter number_of 0 (λ (e : RowEntry). is_live (freed rows) e.who) rows rise)
+    (λ n. sym (row_chosen (is_live (freed rows)) rows n ∙ left_at n (row_at (freed rows) n) refl))
   where
     left_at : (n : ℕ) (o : Option Row) → row_at (freed rows) n ≡ o → cond (is_live (freed rows) n) (row_at rows n) None ≡ row_at (freed rows) n
     left_at n (Some r) s = ap (λ b. cond b (row_at rows n) None) (live_at (freed rows) n r s) ∙ freed_within rows n r rise s ∙ sym s

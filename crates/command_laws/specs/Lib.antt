@@ -1,3 +1,3 @@
-pub mod Kept
 pub mod Accounts
+pub mod Kept
 pub mod Later

@@ -11,7 +11,7 @@ use Rattle.frame_model.specs.declared.form.Length.TheVariants.{Told, Behind}
 use Rattle.frame_model.specs.declared.form.Form.{Form}
 use Rattle.frame_model.specs.declared.form.Form.TheVariants as form
 use Rattle.frame_model.specs.PackData.{PackData, PackItems, item, PackMembers, member, list, dict}
-use Rattle.frame_model.specs.Packs.{alone, as_text, as_value, bytes_at, dict_at, form_of, items_at, key_at, key_of_form, length_at, list_at, members_at, most_levels, pack_at, read_pack, run_at, text_at, value_at, value_of_form, width_at, width_of}
+use Rattle.frame_model.specs.Packs.{all_read, as_text, as_value, bytes_at, dict_at, form_of, items_at, key_at, key_of_form, length_at, list_at, members_at, most_levels, pack_at, read_pack, run_at, text_at, value_at, value_of_form, width_at, width_of}
 
 -- a fault that isn't out of memory, or no fault
 abbrev pub Reads : {A : Type 0} → Result A PackFault → Type 0
@@ -136,10 +136,10 @@ unfolding pack_at
 pack_reads zero bytes at = value None bytes at tt
 pack_reads (suc n) bytes at = value (Some (pack_at n bytes)) bytes at (pack_reads n bytes)
 
-ends : (bytes : List ℕ) (r : PackData × ℕ) → Reads (alone bytes r)
+ends : (bytes : List ℕ) (r : PackData × ℕ) → Reads (all_read bytes r)
 ends bytes r =
     let go : (b : Bool) → Reads {A = PackData} (cond b (Ok r.0) (Err (fault.Trailing r.1))) = elim [ true ↦ tt | false ↦ tt ] in
     go _
 
 pub read_pack-reads : (bytes : List ℕ) → Reads (read_pack bytes)
-read_pack-reads bytes = then (pack_at most_levels bytes 0) (alone bytes) (pack_reads most_levels bytes 0) (ends bytes)
+read_pack-reads bytes = then (pack_at most_levels bytes 0) (all_read bytes) (pack_reads most_levels bytes 0) (ends bytes)

@@ -1,6 +1,6 @@
 pub mod Frames
+pub mod Kinds
 pub mod PackData
 pub mod Packs
 pub mod Reading
 pub mod ServerReading
-pub mod Kinds

@@ -176,12 +176,12 @@ abbrev pub most_levels : ℕ
 most_levels = 32
 
 -- nothing stands behind the value
-abbrev pub alone : List ℕ → PackData × ℕ → Result PackData PackFault
-alone bytes read = if read.1 == length bytes then Ok read.0 else Err (fault.Trailing read.1)
+abbrev pub all_read : List ℕ → PackData × ℕ → Result PackData PackFault
+all_read bytes read = if read.1 == length bytes then Ok read.0 else Err (fault.Trailing read.1)
 
 -- the value that bytes are, or the first fault
 abbrev pub read_pack : List ℕ → Result PackData PackFault
-read_pack bytes = pack_at most_levels bytes 0 >>= alone bytes
+read_pack bytes = pack_at most_levels bytes 0 >>= all_read bytes
 
 -- ---- the shortest bytes of a value
 

@@ -43,15 +43,15 @@ abbrev pub raw_behind : List ℕ → MsgKind × ℕ → Result ClientFrame Frame
 raw_behind bytes kind = Ok (Raw kind.0 (drop kind.1 bytes))
 
 -- a frame of one byte
-abbrev pub alone : ClientFrame → List ℕ → Result ClientFrame FrameFault
-alone frame [] = Ok frame
-alone frame (b ∷ bs) = Err (Bad 1)
+abbrev pub without_payload : ClientFrame → List ℕ → Result ClientFrame FrameFault
+without_payload frame [] = Ok frame
+without_payload frame (b ∷ bs) = Err (Bad 1)
 
 -- a frame by its code
 abbrev pub frame_by_code : ℕ → List ℕ → Result ClientFrame FrameFault
 frame_by_code code rest =
-    if code == 10 then alone Ack rest
-    else if code == 12 then alone Leave rest
+    if code == 10 then without_payload Ack rest
+    else if code == 12 then without_payload Leave rest
     else if code == 13 then (kind_at (code ∷ rest) 1 >>= message_behind (code ∷ rest))
     else if code == 17 then (kind_at (code ∷ rest) 1 >>= raw_behind (code ∷ rest))
     else Err (UnknownCode code)

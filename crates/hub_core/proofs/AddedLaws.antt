@@ -17,7 +17,8 @@ pub found_last : {R : Type 0} (m : ℕ) (s : RoomEntry R) (ss : List (RoomEntry 
 found_last m s [] above = refl
 found_last {R = R} m s (x ∷ ss) above = by_first (x.serial == m) refl (found_last m s ss above.1)
   where
-    by_first : (b : Bool) → (x.serial == m) ≡ b → find_by serial_of m (ss ++ s ∷ []) ≡ cond (s.serial == m) (Some s) (find_by serial_of m ss) → cond b (Some x) (find_by serial_of m (ss ++ s ∷ [])) ≡ cond (s.serial == m) (Some s) (cond b (Some x) (find_by serial_of m ss))
+    by_first : (b : Bool) → (x.serial == m) ≡ b → find_by serial_of m (ss ++ s ∷ []) ≡ cond (s.serial == m) (Some s) (find_by serial_of m ss)
+        → cond b (Some x) (find_by serial_of m (ss ++ s ∷ [])) ≡ cond (s.serial == m) (Some s) (cond b (Some x) (find_by serial_of m ss))
     by_first true here rest = (let less = above.0 in let other : (s.serial == m) ≡ false = grind (arith, nat_tests, less, here) in rw other refl)
     by_first false other rest = rest
 

@@ -80,7 +80,8 @@ module _ (step : RoomStep) (h : HubValue) (conn : ℕ) (criteria : List (List �
   )
 
   -- where no room has an event
-  idle_by : (d : Decision) (text : List ℕ) → dealt_by d ≡ idle step h.rooms → rooms_made h criteria room d ≡ [] → reply_of h h.rooms d (answered_in h room session d) ≡ text → filter is_needed h.rooms ≡ h.rooms → filter (λ r. not (is_needed r)) h.rooms ≡ []
+  idle_by : (d : Decision) (text : List ℕ) → dealt_by d ≡ idle step h.rooms → rooms_made h criteria room d ≡ [] → reply_of h h.rooms d (answered_in h room session d) ≡ text
+      → filter is_needed h.rooms ≡ h.rooms → filter (λ r. not (is_needed r)) h.rooms ≡ []
       → step_by d ≡ (h, out.Reply conn text ∷ [])
   idle_by d text quiet none reply stay gone =
       rw (quiet, none, idle_rooms step h.rooms, idle_conns step h.rooms h.conns, idle_given step (λ (d : Dealt). flat_map (told_out h.conns d.room.id) d.outs) (λ r. refl) h.rooms, stay, gone, reply) refl
@@ -101,12 +102,17 @@ module _ (step : RoomStep) (h : HubValue) (conn : ℕ) (criteria : List (List �
   joined_by at r there = rw (there, append-nil h.rooms) refl
 
   pub made_by : (at : ℕ) (def : RoomDef) → slice_get h.defs at ≡ Some def
-      → step_by (decision.Make at) ≡ ((seated_in step (with_made h (room_made h criteria room at def)) conn session room).0, created_out h (room_made h criteria room at def) ∷ (seated_in step (with_made h (room_made h criteria room at def)) conn session room).1)
+      → step_by (decision.Make at) ≡ (
+        (seated_in step (with_made h (room_made h criteria room at def)) conn session room).0,
+        created_out h (room_made h criteria room at def) ∷
+            (seated_in step (with_made h (room_made h criteria room at def)) conn session room).1,
+      )
   made_by at def there = rw there refl
 
 -- ---- drawn ids
 
-drawn_used : {R : Type 0} (h : HubValue) (ss : List (RoomEntry R)) (count : ℕ) (criteria : List (List ℕ)) (room session id : List ℕ) (d : Decision) (l : Outcome) → Leads ss count criteria d l → Some id ≡ used_of (is_used h) l room session → drawn h room session d ≡ decision.Refuse 4213 (in_use_text id)
+drawn_used : {R : Type 0} (h : HubValue) (ss : List (RoomEntry R)) (count : ℕ) (criteria : List (List ℕ)) (room session id : List ℕ) (d : Decision) (l : Outcome) → Leads ss count criteria d l
+    → Some id ≡ used_of (is_used h) l room session → drawn h room session d ≡ decision.Refuse 4213 (in_use_text id)
 drawn_used h ss count criteria room session id d (leads.Refuse code text) how used = absurd cc
 drawn_used h ss count criteria room session id d (leads.Return n kept) how used = absurd cc
 drawn_used h ss count criteria room session id d (leads.Join n) how used = ap (drawn h room session) how.2 ∙ by_session (is_used h session) used
@@ -120,7 +126,8 @@ drawn_used h ss count criteria room session id d (leads.Make def texts) how used
     by_session true used = (let one : id ≡ session = cc in ap (λ k. decision.Refuse 4213 (in_use_text k)) (sym one))
     by_session false used = absurd cc
 
-    by_room : (b : Bool) → Some id ≡ cond b (Some room) (cond (is_used h session) (Some session) None) → cond b (decision.Refuse 4213 (in_use_text room)) (cond (is_used h session) (decision.Refuse 4213 (in_use_text session)) (decision.Make def)) ≡ decision.Refuse 4213 (in_use_text id)
+    by_room : (b : Bool) → Some id ≡ cond b (Some room) (cond (is_used h session) (Some session) None)
+        → cond b (decision.Refuse 4213 (in_use_text room)) (cond (is_used h session) (decision.Refuse 4213 (in_use_text session)) (decision.Make def)) ≡ decision.Refuse 4213 (in_use_text id)
     by_room true used = (let one : id ≡ room = cc in ap (λ k. decision.Refuse 4213 (in_use_text k)) (sym one))
     by_room false used = by_session (is_used h session) used
 
@@ -138,7 +145,8 @@ unused_make h room session def texts none = by_room (is_used h room) none
     by_session true none = absurd cc
     by_session false none = refl
 
-    by_room : (b : Bool) → None ≡ cond b (Some room) (cond (is_used h session) (Some session) None) → cond b (decision.Refuse 4213 (in_use_text room)) (cond (is_used h session) (decision.Refuse 4213 (in_use_text session)) (decision.Make def)) ≡ decision.Make def
+    by_room : (b : Bool) → None ≡ cond b (Some room) (cond (is_used h session) (Some session) None)
+        → cond b (decision.Refuse 4213 (in_use_text room)) (cond (is_used h session) (decision.Refuse 4213 (in_use_text session)) (decision.Make def)) ≡ decision.Make def
     by_room true none = absurd cc
     by_room false none = by_session (is_used h session) none
 
@@ -244,19 +252,22 @@ hub_same : (n m : ℕ) (s t : Schema) (p q : List ℕ) (d e : List RoomDef) (rs 
 hub_same n m s t p q d e rs us cs ds a b c f g h = rw (a, b, c, f, g, h) refl
 
 -- what the reservation costs the room in which the seat is
-paid_in : (costs : RoomValue → RoomEvent → ℕ) (h : HubValue) (session fresh : List ℕ) (d : Decision) (id : List ℕ) (r : HubRoom) → reserved_in h fresh d ≡ Some id → is_named id r ≡ true → (new before part all : ℕ) → new ≤ before + costs r.room (event.Reserve session (h.now + (def_of_room h.defs r).seat))
+paid_in : (costs : RoomValue → RoomEvent → ℕ) (h : HubValue) (session fresh : List ℕ) (d : Decision) (id : List ℕ) (r : HubRoom) → reserved_in h fresh d ≡ Some id → is_named id r ≡ true
+    → (new before part all : ℕ) → new ≤ before + costs r.room (event.Reserve session (h.now + (def_of_room h.defs r).seat))
     → sum_by (costs r.room) (event_in (reserved_in h fresh d) r (event.Reserve session (h.now + (def_of_room h.defs r).seat))) ≤ part → part ≤ all → new ≤ before + all
 paid_in costs h session fresh d id r where_is named new before part all own one rest =
     let ev : RoomEvent = event.Reserve session (h.now + (def_of_room h.defs r).seat) in
     let is : sum_by (costs r.room) (event_in (reserved_in h fresh d) r ev) ≡ 0 + costs r.room ev = ap (λ o. sum_by (costs r.room) (event_in o r ev)) where_is ∙ ap (λ b. sum_by (costs r.room) (event_if b ev)) named in
     omega (arith, own, one, rest, is)
 
-paid_as : (costs : RoomValue → RoomEvent → ℕ) (session : List ℕ) (m n : ℕ) (ds es : List RoomDef) (r u : HubRoom) (new before : ℕ) → m ≡ n → ds ≡ es → r ≡ u → new ≤ before + costs r.room (event.Reserve session (m + (def_of_room ds r).seat)) → new ≤ before + costs u.room (event.Reserve session (n + (def_of_room es u).seat))
+paid_as : (costs : RoomValue → RoomEvent → ℕ) (session : List ℕ) (m n : ℕ) (ds es : List RoomDef) (r u : HubRoom) (new before : ℕ) → m ≡ n → ds ≡ es → r ≡ u
+    → new ≤ before + costs r.room (event.Reserve session (m + (def_of_room ds r).seat)) → new ≤ before + costs u.room (event.Reserve session (n + (def_of_room es u).seat))
 paid_as costs session m n ds es r u new before a b c paid =
     subst (λ (u : HubRoom). new ≤ before + costs u.room (event.Reserve session (n + (def_of_room es u).seat))) c
     (subst (λ es. new ≤ before + costs r.room (event.Reserve session (n + (def_of_room es r).seat))) b (subst (λ n. new ≤ before + costs r.room (event.Reserve session (n + (def_of_room ds r).seat))) a paid))
 
-module _ {R : Type 0} (room : R → RoomValue) (Holds : RoomValue → Type 0) (handled : RoomStep) (laws : Lawful Holds handled) (p : Parts R) (entry : Stands room Holds p) (ordered : AreOrdered p.registry.rooms) (conn : ℕ) (target body fresh session : List ℕ) where
+module _ {R : Type 0} (room : R → RoomValue) (Holds : RoomValue → Type 0) (handled : RoomStep) (laws : Lawful Holds handled) (p : Parts R) (entry : Stands room Holds p)
+    (ordered : AreOrdered p.registry.rooms) (conn : ℕ) (target body fresh session : List ℕ) where
   abbrev pub ss : List (RoomEntry R)
   ss = p.registry.rooms
 
@@ -315,7 +326,8 @@ module _ {R : Type 0} (room : R → RoomValue) (Holds : RoomValue → Type 0) (h
       pub kept_id : is_id kept ≡ true
       kept_id = by_request (returned_kept h r returned.0 kept returned.2)
         where
-          by_room : (token : List ℕ) (o : Option (RoomEntry R)) → (find_is : (s : RoomEntry R) → o ≡ Some s → IsGood room Holds s) → option_and_then (λ (r : HubRoom). kept_by r.room.seats token) (option_map (room_in room) o) ≡ Some kept → is_id kept ≡ true
+          by_room : (token : List ℕ) (o : Option (RoomEntry R)) → (find_is : (s : RoomEntry R) → o ≡ Some s → IsGood room Holds s)
+              → option_and_then (λ (r : HubRoom). kept_by r.room.seats token) (option_map (room_in room) o) ≡ Some kept → is_id kept ≡ true
           by_room token None good h = absurd cc
           by_room token (Some s) good h = (good s refl).sessions kept (laws.keepers (room s.room) (good s refl).holds token kept h)
 
@@ -359,7 +371,8 @@ module _ {R : Type 0} (room : R → RoomValue) (Holds : RoomValue → Type 0) (h
       pub join_place : IfSome (find_by serial_of n ss) (λ s. has_place_for (room s.room) session ≡ true)
       join_place =
           subst (λ o. IfSome o (λ s. has_place_for (room s.room) session ≡ true)) (sym joined_at)
-          (reserves.fits u.id (room_in room u) (ap (reserved_in h fresh) joined_is ∙ ap (option_map (λ (r : HubRoom). r.id)) place_is) (Contains-append_left h.rooms (rooms_made h (criteria_of r) fresh (decided (rules_of handled) h target body fresh session)) (room_in room u) (taken_in h.rooms joined.0 (room_in room u) place_is)) (bytes_eq_self u.id))
+          (reserves.fits u.id (room_in room u) (ap (reserved_in h fresh) joined_is ∙ ap (option_map (λ (r : HubRoom). r.id)) place_is)
+          (Contains-append_left h.rooms (rooms_made h (criteria_of r) fresh (decided (rules_of handled) h target body fresh session)) (room_in room u) (taken_in h.rooms joined.0 (room_in room u) place_is)) (bytes_eq_self u.id))
 
       pub join_free : Each (λ s. has_session (room s.room) session ≡ false) ss
       join_free = none_has room session ss (unused_session h session (subst (λ l. None ≡ used_of (is_used h) l fresh session) is unused))
@@ -439,7 +452,8 @@ module _ {R : Type 0} (room : R → RoomValue) (Holds : RoomValue → Type 0) (h
         pub made_needed : Each (λ s. (s.serial == serial) ≡ false → IsNeeded room s) mid.registry.rooms
         made_needed =
             subst (Each (λ s. (s.serial == serial) ≡ false → IsNeeded room s)) (sym it.rooms)
-            (Each-last (λ s. (s.serial == serial) ≡ false → IsNeeded room s) it.it ss above (all_others room serial ss entry.needed) (λ other. absurd (let number : it.it.serial ≡ serial = it.number in let here : (it.it.serial == serial) ≡ true = grind (arith, nat_tests, number) in cc)))
+            (Each-last (λ s. (s.serial == serial) ≡ false → IsNeeded room s) it.it ss above (all_others room serial ss entry.needed)
+            (λ other. absurd (let number : it.it.serial ≡ serial = it.number in let here : (it.it.serial == serial) ≡ true = grind (arith, nat_tests, number) in cc)))
 
         texts_are : texts ≡ criteria_of r
         texts_are = makes.1
@@ -451,12 +465,14 @@ module _ {R : Type 0} (room : R → RoomValue) (Holds : RoomValue → Type 0) (h
         made_place =
             subst (λ o. IfSome o (λ s. has_place_for (room s.room) session ≡ true)) (sym made_at)
             (subst (λ (x : HubRoom). has_place_for x.room session ≡ true) (sym made_room)
-            (reserves.fits fresh (room_made h (criteria_of r) fresh def d) (ap (reserved_in h fresh) made_is) (subst (λ rs. Contains (h.rooms ++ rs) (room_made h (criteria_of r) fresh def d)) (sym rooms_are) (Contains-push h.rooms (room_made h (criteria_of r) fresh def d))) (bytes_eq_self fresh)))
+            (reserves.fits fresh (room_made h (criteria_of r) fresh def d) (ap (reserved_in h fresh) made_is)
+            (subst (λ rs. Contains (h.rooms ++ rs) (room_made h (criteria_of r) fresh def d)) (sym rooms_are) (Contains-push h.rooms (room_made h (criteria_of r) fresh def d))) (bytes_eq_self fresh)))
 
         pub made_unused : Each (λ s. has_session (room s.room) session ≡ false) mid.registry.rooms
         made_unused =
             subst (Each (λ s. has_session (room s.room) session ≡ false)) (sym it.rooms)
-            (Each-last (λ s. has_session (room s.room) session ≡ false) it.it ss above (none_has room session ss (unused_made h fresh session def texts (subst (λ l. None ≡ used_of (is_used h) l fresh session) is unused))) (ap (λ (r : HubRoom). has_session r.room session) made_room))
+            (Each-last (λ s. has_session (room s.room) session ≡ false) it.it ss above
+            (none_has room session ss (unused_made h fresh session def texts (subst (λ l. None ≡ used_of (is_used h) l fresh session) is unused))) (ap (λ (r : HubRoom). has_session r.room session) made_room))
 
         with_it : hub_of room mid ≡ with_made h (room_made h (criteria_of r) fresh def d)
         with_it =
@@ -470,12 +486,14 @@ module _ {R : Type 0} (room : R → RoomValue) (Holds : RoomValue → Type 0) (h
         id_is : it.it.id ≡ fresh
         id_is = ap (λ (r : HubRoom). r.id) made_room
 
-        pub made_cost : (costs : RoomValue → RoomEvent → ℕ) (new before : ℕ) → IfSome (find_by serial_of serial mid.registry.rooms) (λ s. new ≤ before + costs (room s.room) (event.Reserve session (mid.moment + (def_of_room mid.defs (room_in room s)).seat)))
+        pub made_cost : (costs : RoomValue → RoomEvent → ℕ) (new before : ℕ)
+            → IfSome (find_by serial_of serial mid.registry.rooms) (λ s. new ≤ before + costs (room s.room) (event.Reserve session (mid.moment + (def_of_room mid.defs (room_in room s)).seat)))
             → new ≤ before + hub_cost costs (rules_of handled) h e
         made_cost costs new before paid =
             let made = room_made h (criteria_of r) fresh def d in
             let at_it = of_there (find_by serial_of serial mid.registry.rooms) it.it (λ s. new ≤ before + costs (room s.room) (event.Reserve session (mid.moment + (def_of_room mid.defs (room_in room s)).seat))) made_at paid in
-            let own : new ≤ before + costs made.room (event.Reserve session (p.moment + (def_of_room p.defs made).seat)) = paid_as costs session mid.moment p.moment mid.defs p.defs (room_in room it.it) made new before it.moment it.defs made_room at_it in
+            let own : new ≤ before + costs made.room (event.Reserve session (p.moment + (def_of_room p.defs made).seat)) =
+            paid_as costs session mid.moment p.moment mid.defs p.defs (room_in room it.it) made new before it.moment it.defs made_room at_it in
             let f : HubRoom → ℕ = dealt_cost costs (rules_of handled) h e in
             let id_is : reserved_in h fresh (decided (rules_of handled) h target body fresh session) ≡ Some fresh = ap (reserved_in h fresh) made_is in
             let one : f made ≤ sum_by f (h.rooms ++ made ∷ []) = sum_last f h.rooms made in

@@ -22,7 +22,7 @@ use Rattle.hub_core.specs.Conns.{by_both, AreApart, AreNumbers}
 abbrev pub conn_of : Inside → HubConn
 conn_of l = record { conn = l.conn; room = l.room; session = l.session }
 
-both_equal : (a b : Ordering) → is_eq (ordering_then a b) ≡ is_eq a && is_eq b
+pub both_equal : (a b : Ordering) → is_eq (ordering_then a b) ≡ is_eq a && is_eq b
 both_equal Less b = refl
 both_equal Equal b = refl
 both_equal Greater b = refl

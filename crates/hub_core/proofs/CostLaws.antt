@@ -5,6 +5,7 @@ use Rattle.std.proofs.lemmas.Bool.Decides.{nat_tests}
 use Rattle.std.proofs.lemmas.List.Sums.{sum_by-append, sum_by-cons, sum_by_push}
 use Rattle.lists.specs.Rising.{RisesFrom, find as find_by, put}
 use Rattle.lists.proofs.RisingLaws.{find_below, find_key}
+use Rattle.lists.proofs.Passing.{found_passes}
 use Rattle.room_model.specs.declared.event.RoomEvent.{RoomEvent}
 use Rattle.room_model.specs.declared.event.RoomEvent.TheVariants as event
 use Rattle.room_model.specs.Room.{RoomValue}
@@ -14,7 +15,6 @@ use Rattle.hub_model.specs.declared.event.HubOut.{HubOut}
 use Rattle.hub_model.specs.Dealt.{RoomStep}
 use Rattle.hub_model.specs.HubStep.{Rules, deals, event_if, lapses_by, makes, moment_at}
 use Rattle.hub_model.specs.HubValues.{HubRoom, is_named}
-use Rattle.hub_laws.proofs.Different.{found_passes}
 use Rattle.hub_core.specs.declared.entry.RoomEntry.{RoomEntry}
 use Rattle.hub_core.specs.declared.parts.Parts.{Parts}
 use Rattle.hub_core.specs.Costs.{cost_in, dealt_cost, hub_cost, lapse_cost}
@@ -162,7 +162,8 @@ module _ {R : Type 0} (room : R → RoomValue) (costs : RoomValue → RoomEvent 
       ∙ sym (sum_by-cons (λ (r : HubRoom). sum_by (costs r.room) (event_if (lapses_by at r) ev)) (room_in room x) (rooms_in room ss))
 
 -- the first of these rooms costs its own
-pub lapse_paid : {R : Type 0} (room : R → RoomValue) (costs : RoomValue → RoomEvent → ℕ) (at n : ℕ) (s t : RoomEntry R) (rest : List ℕ) (ss : List (RoomEntry R)) (first before now all : ℕ) → RisesFrom itself (suc n) rest → t.serial ≡ n → RisesFrom serial_of 0 ss
+pub lapse_paid : {R : Type 0} (room : R → RoomValue) (costs : RoomValue → RoomEvent → ℕ) (at n : ℕ) (s t : RoomEntry R) (rest : List ℕ) (ss : List (RoomEntry R)) (first before now all : ℕ)
+    → RisesFrom itself (suc n) rest → t.serial ≡ n → RisesFrom serial_of 0 ss
     → find_by serial_of n ss ≡ Some s → before + lapse_cost room costs at (n ∷ rest) ss ≤ first + all → now ≤ before + costs (room s.room) (event.Moment at) → now + lapse_cost room costs at rest (put serial_of t ss) ≤ first + all
 lapse_paid room costs at n s t rest ss first before now all rise same rises found left paid =
     let cost = lapse_first room costs at n 0 s t rest ss rise same rises found in omega (arith, cost, left, paid)
@@ -176,7 +177,8 @@ lapsing_within {R = R} room Holds step costs at n due rest old now before outs f
     let more = lapse_paid room costs at n it.it it.it rest now.registry.rooms first paid new all l.rises.1 (find_key serial_of n now.registry.rooms it.it it.is) ordered.0 it.is left it.holds in
     omega (arith, more)
 
-pub lapsing_paid : {R : Type 0} (room : R → RoomValue) (is_spent : R → Bool) (Holds : RoomValue → Type 0) (step : RoomStep) (costs : RoomValue → RoomEvent → ℕ) (at n : ℕ) (due rest : List ℕ) (old now next : Parts R) (before outs more : List HubOut) (first paid new all : ℕ)
+pub lapsing_paid : {R : Type 0} (room : R → RoomValue) (is_spent : R → Bool) (Holds : RoomValue → Type 0) (step : RoomStep) (costs : RoomValue → RoomEvent → ℕ) (at n : ℕ)
+    (due rest : List ℕ) (old now next : Parts R) (before outs more : List HubOut) (first paid new all : ℕ)
     → Lapsing room Holds step at due (n ∷ rest) old now before outs → AreOrdered now.registry.rooms → IfSome (find_by serial_of n now.registry.rooms) (λ s. Turned room is_spent step (event.Moment at) s now next outs more)
     → paid + lapse_cost room costs at (n ∷ rest) now.registry.rooms ≤ first + all → IfSome (find_by serial_of n now.registry.rooms) (λ s. new ≤ paid + costs (room s.room) (event.Moment at))
     → new + lapse_cost room costs at rest next.registry.rooms ≤ first + all
@@ -190,7 +192,8 @@ lapsing_paid {R = R} room is_spent Holds step costs at n due rest old now next b
 -- ---- what the hub's own calls come to
 
 -- an event of the room of an id, as the hub deals it
-pub event_cost : {R : Type 0} (room : R → RoomValue) (costs : RoomValue → RoomEvent → ℕ) (rules : Rules) (p : Parts R) (e : HubEvent) (id : List ℕ) (ev : RoomEvent) (new old : ℕ) → ((r : HubRoom) → deals rules (hub_of room p) e r ≡ event_if (is_named id r) ev)
+pub event_cost : {R : Type 0} (room : R → RoomValue) (costs : RoomValue → RoomEvent → ℕ) (rules : Rules) (p : Parts R) (e : HubEvent) (id : List ℕ) (ev : RoomEvent) (new old : ℕ)
+    → ((r : HubRoom) → deals rules (hub_of room p) e r ≡ event_if (is_named id r) ev)
     → new ≤ old + cost_in room costs p.registry.rooms id ev → new ≤ old + hub_cost costs rules (hub_of room p) e
 event_cost room costs rules p e id ev new old are paid =
     at_most new old (cost_in room costs p.registry.rooms id ev) (hub_cost costs rules (hub_of room p) e) paid (one_cost room costs (deals rules (hub_of room p) e) id ev are p.registry.rooms (makes rules (hub_of room p) e))

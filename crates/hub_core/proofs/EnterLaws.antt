@@ -1,5 +1,5 @@
 -- What an opening's calls come to.
-use Rattle.std.proofs.Common.{length, ◌≡◌, ℕ, ◌==◌, ◌||◌, ◌&&◌, ◌≤◌, ◌+◌, arith, Bool, true, false, List, [], ◌∷◌, Option, Some, None, IfSome, IsTrue, nat_lt, refl, sym, ap, ap₂, subst, ◌∙◌, cond}
+use Rattle.std.proofs.Common.{length, ◌≡◌, ℕ, ◌==◌, ◌||◌, ◌&&◌, ◌≤◌, ◌+◌, arith, Bool, true, false, List, [], ◌∷◌, Option, Some, None, IfSome, IsTrue, refl, sym, ap, ap₂, subst, ◌∙◌, cond}
 use Rattle.std.specs.Prelude.{if◌then◌else◌, is_some, IsSome}
 use Rattle.std.specs.List.{find, flat_map, list_all, list_any}
 use Rattle.std.specs.Option.{option_map, option_map_or}
@@ -8,6 +8,8 @@ use Rattle.std.proofs.lemmas.Bool.{and_parts}
 use Rattle.std.proofs.lemmas.Bool.Decides.{nat_tests}
 use Rattle.lists.specs.Rising.{find as find_by, put, remove}
 use Rattle.lists.proofs.SameBytes.{same_bytes, bytes_eq_self}
+use Rattle.lists.proofs.Passing.{list_all_put}
+use Rattle.schema_model.proofs.FieldCounts.{and_no}
 use Rattle.room_model.specs.declared.event.RoomEvent.{RoomEvent}
 use Rattle.room_model.specs.declared.event.RoomEvent.TheVariants as event
 use Rattle.room_model.specs.declared.event.RoomOut.{RoomOut}
@@ -20,7 +22,6 @@ use Rattle.hub_model.specs.Dealt.{RoomStep}
 use Rattle.hub_model.specs.HubStep.{entered_conns, enters, is_needed}
 use Rattle.hub_model.specs.HubValues.{conn_for, conn_number, is_conn_for}
 use Rattle.hub_core.proofs.HandledLaws.{all_found}
-use Rattle.hub_core.proofs.IdleLaws.{and_false}
 use Rattle.hub_core.specs.declared.parts.Parts.{Parts}
 use Rattle.hub_core.specs.declared.registry.Registry.{Registry}
 use Rattle.hub_core.specs.declared.entry.RoomEntry.{RoomEntry}
@@ -49,7 +50,8 @@ located_there {R = R} id n (x ∷ ss) is = by_first (has_id id x) is (λ rest. l
     by_number true rest = refl
     by_number false rest = rest
 
-    by_first : (b : Bool) → Some n ≡ option_map serial_of (cond b (Some x) (find (has_id id) ss)) → (Some n ≡ option_map serial_of (find (has_id id) ss) → is_some (find_by serial_of n ss) ≡ true) → is_some (cond (x.serial == n) (Some x) (find_by serial_of n ss)) ≡ true
+    by_first : (b : Bool) → Some n ≡ option_map serial_of (cond b (Some x) (find (has_id id) ss)) → (Some n ≡ option_map serial_of (find (has_id id) ss) → is_some (find_by serial_of n ss) ≡ true)
+        → is_some (cond (x.serial == n) (Some x) (find_by serial_of n ss)) ≡ true
     by_first true here rest = (let number : n ≡ x.serial = cc in let own : (x.serial == n) ≡ true = grind (arith, nat_tests, number) in ap (λ b. is_some (cond b (Some x) (find_by serial_of n ss))) own)
     by_first false there rest = by_number (x.serial == n) (rest there)
 
@@ -62,17 +64,6 @@ located_cost room costs ss id n e new old ordered is cost = (let f = found_seria
 pub may_enter : {R : Type 0} (room : R → RoomValue) (session : List ℕ) (token : Option (List ℕ)) (fresh : List ℕ) (o : Option (RoomEntry R)) → IfSome o (λ s. IsTrue (may_happen (room s.room) (event.Enter session token fresh)))
 may_enter room session token fresh None = tt
 may_enter room session token fresh (Some s) = refl
-
--- and of all with one more
-all_put : {X : Type 0} (key : X → ℕ) (q : X → Bool) (x : X) (xs : List X) → q x ≡ true → list_all q xs ≡ true → list_all q (put key x xs) ≡ true
-all_put key q x [] own all = rw own refl
-all_put {X = X} key q x (y ∷ ys) own all =
-    by_place (nat_lt (key x) (key y)) (key y == key x) (and_parts (q y) (list_all q ys) all).0 (and_parts (q y) (list_all q ys) all).1 (all_put key q x ys own (and_parts (q y) (list_all q ys) all).1)
-  where
-    by_place : (a b : Bool) → q y ≡ true → list_all q ys ≡ true → list_all q (put key x ys) ≡ true → list_all q (cond a (x ∷ y ∷ ys) (cond b (x ∷ ys) (y ∷ put key x ys))) ≡ true
-    by_place true b first rest more = rw (own, first) rest
-    by_place false true first rest more = rw own rest
-    by_place false false first rest more = rw first more
 
 module _ {R : Type 0} (room : R → RoomValue) (Holds : RoomValue → Type 0) (handled : RoomStep) (laws : Lawful Holds handled) (o : Opening) (fresh : List ℕ) (n : ℕ) (old : Parts R) (outs : List RoomOut) (entry : Stands room Holds old)
     (f : Found old.registry.rooms o.room n) (outs_are : IfSome (find_by serial_of n old.registry.rooms) (λ s. outs ≡ (handled (room s.room) (event.Enter o.session o.token fresh)).1)) where
@@ -107,7 +98,8 @@ module _ {R : Type 0} (room : R → RoomValue) (Holds : RoomValue → Type 0) (h
           absurd cc
 
 module _ {R : Type 0} (room : R → RoomValue) (is_spent : R → Bool) (Holds : RoomValue → Type 0) (handled : RoomStep) (laws : Lawful Holds handled) (o : Opening) (fresh : List ℕ) (n : ℕ) (old : Parts R) (mid left : Registry R) (outs : List RoomOut)
-    (entry : Stands room Holds old) (ordered : AreOrdered old.registry.rooms) (f : Found old.registry.rooms o.room n) (may : IfSome (find (has_id o.room) old.registry.rooms) (λ s. IsTrue (may_happen (room s.room) (event.Enter o.session o.token fresh))))
+    (entry : Stands room Holds old) (ordered : AreOrdered old.registry.rooms) (f : Found old.registry.rooms o.room n)
+    (may : IfSome (find (has_id o.room) old.registry.rooms) (λ s. IsTrue (may_happen (room s.room) (event.Enter o.session o.token fresh))))
     (outs_are : IfSome (find_by serial_of n old.registry.rooms) (λ s. outs ≡ (handled (room s.room) (event.Enter o.session o.token fresh)).1))
     (step : Step room is_spent n (λ s. (handled (room s.room) (event.Enter o.session o.token fresh)).0) old.registry.rooms mid.rooms)
     (left_are : IfSome (find_by serial_of n mid.rooms) (λ t. left.rooms ≡ (if is_needed (room_in room t) then mid.rooms else remove serial_of n mid.rooms))) where
@@ -132,7 +124,7 @@ module _ {R : Type 0} (room : R → RoomValue) (is_spent : R → Bool) (Holds : 
 
   entered_any : list_any (enters o) (dealt_in handled (rooms_in room old.registry.rooms) o.room ev) ≡ list_any (is_entry o.session) outs
   entered_any =
-      dealing.any_handled room handled o.room ev s old.registry.rooms ordered f.is (enters o) (λ r. and_false (bytes_eq r.id o.room))
+      dealing.any_handled room handled o.room ev s old.registry.rooms ordered f.is (enters o) (λ r. and_no (bytes_eq r.id o.room))
       ∙ ap₂ (λ a b. a && b) (ap (λ k. bytes_eq k o.room) name ∙ bytes_eq_self o.room) (ap (list_any (is_entry o.session)) (sym outs_is))
 
   pub conns_entered : (conn : ℕ) → with_newcomer conn ≡ entered_conns old.conns conn (dealt_in handled (rooms_in room old.registry.rooms) o.room ev) (Some o)
@@ -163,15 +155,17 @@ module _ {R : Type 0} (room : R → RoomValue) (is_spent : R → Bool) (Holds : 
           ∙ any_true (is_of_one room old.registry.rooms (newcomer conn))
 
       by_entry : (b : Bool) → list_any (is_entry o.session) outs ≡ b → list_all q (cond b (put conn_number (newcomer conn) old.conns) old.conns) ≡ true
-      by_entry true entry = all_put conn_number q (newcomer conn) old.conns (own entry) were
+      by_entry true entry = list_all_put conn_number q (newcomer conn) old.conns (own entry) were
       by_entry false none = were
 
   -- a hub in order stays so
-  pub entered_stands : (conn : ℕ) (middle new : Parts R) → middle.registry ≡ mid → middle.conns ≡ without_all s.id (flat_map ended_by (handled (room s.room) ev).1) (with_newcomer conn) → middle.moment ≡ old.moment → middle.defs ≡ old.defs → middle.process ≡ old.process → middle.session_rooms ≡ old.session_rooms
+  pub entered_stands : (conn : ℕ) (middle new : Parts R) → middle.registry ≡ mid → middle.conns ≡ without_all s.id (flat_map ended_by (handled (room s.room) ev).1) (with_newcomer conn)
+      → middle.moment ≡ old.moment → middle.defs ≡ old.defs → middle.process ≡ old.process → middle.session_rooms ≡ old.session_rooms
       → IsKept room mid → length mid.open_rooms.items ≡ length old.registry.open_rooms.items → AreOrdered mid.rooms → IsKept room left → length left.open_rooms.items ≡ length mid.open_rooms.items
       → new.registry ≡ left → new.conns ≡ middle.conns → new.moment ≡ middle.moment → new.defs ≡ middle.defs → new.process ≡ middle.process → new.session_rooms ≡ middle.session_rooms → Stands room Holds new
   entered_stands conn middle new registry conns moment defs process session_rooms kept count in_order kept_left count_left registry' conns' moment' defs' process' session_rooms' =
-      let order = turn.order_stepped room is_spent Holds handled laws ev n old entry.order ordered s f.at may_is mid behind (with_newcomer conn) (all_may_stay conn) middle registry conns moment defs process session_rooms kept count (λ k is. absurd cc) (λ k is. absurd cc) in
+      let order = turn.order_stepped room is_spent Holds handled laws ev n old entry.order ordered s f.at may_is mid behind (with_newcomer conn) (all_may_stay conn)
+      middle registry conns moment defs process session_rooms kept count (λ k is. absurd cc) (λ k is. absurd cc) in
       let others = turn.others_needed room is_spent Holds handled laws ev n old entry.order ordered s f.at may_is mid behind (turn.all_others room n old.registry.rooms entry.needed) in
       stands_left room Holds handled laws n middle new left order
       (subst (λ (g : Registry R). AreOrdered g.rooms) (sym registry) in_order)

@@ -88,7 +88,8 @@ event_there : (r : HubRoom) (make : List ℕ → RoomEvent) (o : Option HubConn)
 event_there r make o c is = ap (event_of_conn r make) is
 
 -- an event of a connection's session
-pub frame_step : (rules : Rules) (h : HubValue) (conn : ℕ) (bytes : List ℕ) (c : HubConn) → conn_of h conn ≡ Some c → is_some (room_of h c.room) ≡ true → hub_step rules h (happened.Frame conn bytes) ≡ handled_in rules.step h c.room (event.Frame c.session bytes)
+pub frame_step : (rules : Rules) (h : HubValue) (conn : ℕ) (bytes : List ℕ) (c : HubConn) → conn_of h conn ≡ Some c → is_some (room_of h c.room) ≡ true
+    → hub_step rules h (happened.Frame conn bytes) ≡ handled_in rules.step h c.room (event.Frame c.session bytes)
 frame_step rules h conn bytes c is there =
     handled_step rules h (happened.Frame conn bytes) c.room (event.Frame c.session bytes) (λ r. event_there r (λ s. event.Frame s bytes) (conn_of h conn) c is) refl refl (λ ds. refl) (λ cs d. refl)
     (ap (λ (o : Option HubConn). cond (is_some o) [] (out.Refused refusal.NoConn ∷ [])) is ∙ sym (ap (λ b. cond b [] (out.Refused refusal.NoRoom ∷ [])) there)) (λ ds. refl)

@@ -5,6 +5,7 @@ use Rattle.std.specs.List.{find, flat_map}
 use Rattle.std.specs.Option.{option_map}
 use Rattle.std.specs.Str.{bytes_eq}
 use Rattle.lists.specs.Rising.{find as find_by, put, remove}
+use Rattle.lists.proofs.Passing.{found_passes}
 use Rattle.room_model.specs.declared.event.RoomEvent.{RoomEvent}
 use Rattle.room_model.specs.declared.event.RoomOut.{RoomOut}
 use Rattle.room_model.specs.Room.{RoomValue}
@@ -18,7 +19,6 @@ use Rattle.hub_model.specs.Dealt as dealt
 use Rattle.hub_model.specs.Dealt.{Dealt, RoomStep, told_out, with_room}
 use Rattle.hub_model.specs.HubStep.{disposals, is_needed, unknown_room}
 use Rattle.hub_model.specs.HubValues.{HubRoom, is_named}
-use Rattle.hub_laws.proofs.Different.{found_passes}
 use Rattle.hub_core.specs.declared.parts.Parts.{Parts}
 use Rattle.hub_core.specs.declared.registry.Registry.{Registry}
 use Rattle.hub_core.specs.declared.entry.RoomEntry.{RoomEntry}
@@ -60,11 +60,13 @@ some_found ss id n f = ap is_some f.at
 
 -- ---- an event of it
 
-pub may_at : {R : Type 0} (room : R → RoomValue) (ev : RoomEvent) (ss : List (RoomEntry R)) (id : List ℕ) (n : ℕ) → Found ss id n → IfSome (find (has_id id) ss) (λ s. IsTrue (may_happen (room s.room) ev)) → IfSome (find_by serial_of n ss) (λ s. IsTrue (may_happen (room s.room) ev))
+pub may_at : {R : Type 0} (room : R → RoomValue) (ev : RoomEvent) (ss : List (RoomEntry R)) (id : List ℕ) (n : ℕ) → Found ss id n → IfSome (find (has_id id) ss) (λ s. IsTrue (may_happen (room s.room) ev))
+    → IfSome (find_by serial_of n ss) (λ s. IsTrue (may_happen (room s.room) ev))
 may_at {R = R} room ev ss id n f h = subst (λ o. IfSome o (λ (s : RoomEntry R). IsTrue (may_happen (room s.room) ev))) (sym f.at) (of_there (find (has_id id) ss) f.it (λ s. IsTrue (may_happen (room s.room) ev)) f.is h)
 
 -- also where the room isn't spent
-pub may_fresh : {R : Type 0} (room : R → RoomValue) (is_spent : R → Bool) (ev : RoomEvent) (o : Option (RoomEntry R)) → IfSome o (λ s. IsTrue (may_happen (room s.room) ev)) → IfSome o (λ s. is_spent s.room ≡ false → IsTrue (may_happen (room s.room) ev))
+pub may_fresh : {R : Type 0} (room : R → RoomValue) (is_spent : R → Bool) (ev : RoomEvent) (o : Option (RoomEntry R)) → IfSome o (λ s. IsTrue (may_happen (room s.room) ev))
+    → IfSome o (λ s. is_spent s.room ≡ false → IsTrue (may_happen (room s.room) ev))
 may_fresh room is_spent ev None h = tt
 may_fresh room is_spent ev (Some s) h = λ fresh. h
 
@@ -90,7 +92,8 @@ pub known_by : {R : Type 0} (room : R → RoomValue) (id : List ℕ) (ss : List 
 known_by room id ss o h = sym (room_known room id ss) ∙ ap is_some (sym h)
 
 -- where its places stay it is needed as before
-pub still_needed : {R : Type 0} (room : R → RoomValue) (is_spent : R → Bool) (handled : RoomStep) (ev : RoomEvent) (n : ℕ) (s : RoomEntry R) (old new : List (RoomEntry R)) → find_by serial_of n old ≡ Some s → IsStepped room is_spent s old new (handled (room s.room) ev).0
+pub still_needed : {R : Type 0} (room : R → RoomValue) (is_spent : R → Bool) (handled : RoomStep) (ev : RoomEvent) (n : ℕ) (s : RoomEntry R) (old new : List (RoomEntry R))
+    → find_by serial_of n old ≡ Some s → IsStepped room is_spent s old new (handled (room s.room) ev).0
     → Each (IsNeeded room) old → (handled (room s.room) ev).0.seats ≡ (room s.room).seats → IfSome (find_by serial_of n new) (λ t. is_needed (room_in room t) ≡ true)
 still_needed {R = R} room is_spent handled ev n s old new at stepped needed same =
     let own : is_needed (room_in room s) ≡ true = of_there (find_by serial_of n old) s (IsNeeded room) at (needed n) in
@@ -178,7 +181,8 @@ module _ {R : Type 0} (room : R → RoomValue) (is_spent : R → Bool) (Holds : 
 
 module _ {R : Type 0} (room : R → RoomValue) (is_spent : R → Bool) (Holds : RoomValue → Type 0) (handled : RoomStep) (laws : Lawful Holds handled) (id : List ℕ) (ev : RoomEvent) (n : ℕ) (old mid : Parts R) (left : Registry R)
     (entry : Stands room Holds old) (ordered : AreOrdered old.registry.rooms) (f : Found old.registry.rooms id n) (may : IfSome (find (has_id id) old.registry.rooms) (λ s. IsTrue (may_happen (room s.room) ev))) (before middle : List HubOut)
-    (turned : Turned room is_spent handled ev f.it old mid before middle) (left_are : IfSome (find_by serial_of n mid.registry.rooms) (λ t. left.rooms ≡ (if is_needed (room_in room t) then mid.registry.rooms else remove serial_of n mid.registry.rooms))) where
+    (turned : Turned room is_spent handled ev f.it old mid before middle)
+    (left_are : IfSome (find_by serial_of n mid.registry.rooms) (λ t. left.rooms ≡ (if is_needed (room_in room t) then mid.registry.rooms else remove serial_of n mid.registry.rooms))) where
   abbrev given : List RoomOut
   given = (handled (room f.it.room) ev).1
 
@@ -204,5 +208,6 @@ module _ {R : Type 0} (room : R → RoomValue) (is_spent : R → Bool) (Holds : 
       → new.registry ≡ left → new.conns ≡ mid.conns → new.moment ≡ mid.moment → new.defs ≡ mid.defs → new.process ≡ mid.process → new.session_rooms ≡ mid.session_rooms → Stands room Holds new
   stands_handled new order in_order kept count registry conns moment defs process session_rooms =
       stands_left room Holds handled laws n mid new left order in_order (ap is_some (stepped_found room is_spent n f.it old.registry.rooms mid.registry.rooms (handled (room f.it.room) ev).0 turned.stepped f.at))
-      (others_needed room is_spent Holds handled laws ev n old entry.order ordered f.it f.at (of_there (find (has_id id) old.registry.rooms) f.it (λ s. IsTrue (may_happen (room s.room) ev)) f.is may) mid.registry turned.stepped (all_others room n old.registry.rooms entry.needed))
+      (others_needed room is_spent Holds handled laws ev n old entry.order ordered f.it f.at (of_there (find (has_id id) old.registry.rooms) f.it (λ s. IsTrue (may_happen (room s.room) ev)) f.is may)
+      mid.registry turned.stepped (all_others room n old.registry.rooms entry.needed))
       left_are kept count registry conns moment defs process session_rooms

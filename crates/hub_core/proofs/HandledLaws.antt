@@ -14,9 +14,10 @@ use Rattle.hub_model.specs.declared.event.HubOut.{HubOut}
 use Rattle.hub_model.specs.HubValues.{HubRoom, is_named}
 use Rattle.hub_model.specs.HubStep.{disposals, event_if, is_needed}
 use Rattle.hub_model.specs.Dealt.{Dealt, RoomStep, conns_left, dealt, with_room}
-use Rattle.hub_laws.proofs.Different.{found_passes, found_in}
+use Rattle.hub_laws.proofs.Different.{found_in}
 use Rattle.std.proofs.lemmas.List.Elements.{All-contains}
 use Rattle.std.proofs.lemmas.List.Sums.{AllPass-from_list_all}
+use Rattle.lists.proofs.Passing.{found_passes}
 use Rattle.hub_core.specs.declared.entry.RoomEntry.{RoomEntry}
 use Rattle.hub_core.specs.Endings.{ended_by, without_all}
 use Rattle.hub_core.specs.Hubs.{IsNeeded}

@@ -1,7 +1,9 @@
 -- Rooms that have no event, and rooms of which one has: what a hub's step makes of it.
-use Rattle.std.proofs.Common.{◌≡◌, ℕ, ◌++◌, ◌&&◌, Bool, true, false, not, List, [], ◌∷◌, filter, map, refl, ap, ap₂, ◌∙◌, append-nil}
+use Rattle.std.proofs.Common.{◌≡◌, ℕ, ◌++◌, ◌&&◌, false, not, List, [], ◌∷◌, filter, map, refl, ap, ap₂, ◌∙◌, append-nil}
 use Rattle.std.specs.List.{flat_map, list_any}
 use Rattle.std.specs.Str.{bytes_eq}
+use Rattle.lists.proofs.ListFacts.{map_same}
+use Rattle.schema_model.proofs.FieldCounts.{and_no}
 use Rattle.room_model.specs.declared.event.RoomEvent.{RoomEvent}
 use Rattle.hub_model.specs.declared.conn.HubConn.{HubConn}
 use Rattle.hub_model.specs.declared.event.HubEvent.{HubEvent}
@@ -25,23 +27,15 @@ pub idle_given : {X : Type 0} (step : RoomStep) (f : Dealt → List X) → ((r :
 idle_given step f silent [] = refl
 idle_given step f silent (r ∷ rooms) = ap₂ (λ a b. a ++ b) (silent r) (idle_given step f silent rooms)
 
-pub and_false : (b : Bool) → (b && false) ≡ false
-and_false true = refl
-and_false false = refl
-
 idle_any : (step : RoomStep) (c : HubConn) (rooms : List HubRoom) → list_any (ends c) (idle step rooms) ≡ false
 idle_any step c [] = refl
-idle_any step c (r ∷ rooms) = rw (and_false (bytes_eq r.id c.room)) (idle_any step c rooms)
+idle_any step c (r ∷ rooms) = rw (and_no (bytes_eq r.id c.room)) (idle_any step c rooms)
 
 pub idle_conns : (step : RoomStep) (rooms : List HubRoom) (cs : List HubConn) → conns_left (idle step rooms) cs ≡ cs
 idle_conns step rooms [] = refl
 idle_conns step rooms (c ∷ cs) = rw (idle_any step c rooms) (ap (λ l. c ∷ l) (idle_conns step rooms cs))
 
 -- ---- by the event
-
-map_same : {X Y : Type 0} (f g : X → Y) → ((x : X) → f x ≡ g x) → (xs : List X) → map f xs ≡ map g xs
-map_same f g same [] = refl
-map_same f g same (x ∷ xs) = ap₂ (λ y ys. y ∷ ys) (same x) (map_same f g same xs)
 
 -- each room has these events, and none is made
 pub dealt_so : (rules : Rules) (h : HubValue) (e : HubEvent) (es : HubRoom → List RoomEvent) → ((r : HubRoom) → deals rules h e r ≡ es r) → makes rules h e ≡ [] → all_dealt rules h e ≡ map (λ (r : HubRoom). dealt rules.step r (es r)) h.rooms
@@ -59,7 +53,7 @@ silent_tells (Lost conn) cs step r = refl
 silent_tells (Acted room act) cs step r = refl
 silent_tells (Tick room) cs step r = refl
 
--- where nothing handled in a room
+-- where nothing happens in a room
 pub idle_step : (rules : Rules) (h : HubValue) (e : HubEvent) → ((r : HubRoom) → deals rules h e r ≡ []) → makes rules h e ≡ [] → filter is_needed h.rooms ≡ h.rooms → filter (λ r. not (is_needed r)) h.rooms ≡ []
     → conns_with h e (idle rules.step h.rooms) ≡ h.conns
     → hub_step rules h e ≡ (record { now = moment_behind h e; schema = h.schema; process = h.process; defs = h.defs; rooms = h.rooms; conns = h.conns }, first_outs rules h e ++ last_outs rules h e (idle rules.step h.rooms))
@@ -75,7 +69,8 @@ idle_step rules h e none no_room stay gone conns =
     (ap₂ (λ g d. first_outs rules h e ++ (g ++ (last_outs rules h e ds ++ d))) given disposed ∙ ap (λ l. first_outs rules h e ++ l) (append-nil (last_outs rules h e ds)))
 
 -- where the room of an id has an event that opens nothing
-pub handled_step : (rules : Rules) (h : HubValue) (e : HubEvent) (id : List ℕ) (ev : RoomEvent) → ((r : HubRoom) → deals rules h e r ≡ event_if (is_named id r) ev) → makes rules h e ≡ [] → moment_behind h e ≡ h.now → ((ds : List Dealt) → conns_with h e ds ≡ h.conns)
+pub handled_step : (rules : Rules) (h : HubValue) (e : HubEvent) (id : List ℕ) (ev : RoomEvent) → ((r : HubRoom) → deals rules h e r ≡ event_if (is_named id r) ev) → makes rules h e ≡ []
+    → moment_behind h e ≡ h.now → ((ds : List Dealt) → conns_with h e ds ≡ h.conns)
     → ((cs : List HubConn) (d : Dealt) → tells e cs d ≡ flat_map (told_out cs d.room.id) d.outs) → first_outs rules h e ≡ unknown_room h id → ((ds : List Dealt) → last_outs rules h e ds ≡ []) → hub_step rules h e ≡ handled_in rules.step h id ev
 handled_step rules h e id ev own no_room now conns tell first last =
     let ds = dealt_in rules.step h.rooms id ev in

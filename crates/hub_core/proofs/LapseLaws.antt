@@ -2,7 +2,7 @@
 use Rattle.std.proofs.Common.{◌≡◌, ℕ, Bool, true, false, not, cond, ◌&&◌, ◌||◌, ◌==◌, List, [], ◌∷◌, refl, sym, ap₂, ◌∙◌, ◌≤◌, ◌<◌, suc, zero-le, arith}
 use Rattle.std.specs.List.{list_any}
 use Rattle.std.specs.BTreeMap.{is_at}
-use Rattle.std.specs.Ordering.{nat_cmp, is_eq, ordering_then}
+use Rattle.std.specs.Ordering.{nat_cmp, ordering_then}
 use Rattle.std.specs.declared.cmp.Ordering.{Ordering}
 use Rattle.std.specs.declared.cmp.Ordering.TheVariants.{Less, Equal, Greater}
 use Rattle.std.proofs.lemmas.Bool.Decides.{nat_tests}
@@ -10,22 +10,16 @@ use Rattle.std.specs.Prelude.{nat_le}
 use Rattle.std.specs.List.{AllByRecursion}
 use Rattle.std.specs.List.Sorted.{IsStrictlySortedBy}
 use Rattle.lists.specs.Rising.{RisesFrom}
+use Rattle.lists.proofs.Numbers.{cmp_same}
 use Rattle.hub_core.specs.Lapses.{has_lapse, is_past, itself}
+use Rattle.hub_core.proofs.ConnLaws.{both_equal}
 
 -- how a moment with a number stands to others
 abbrev pub by_pair : ℕ × ℕ → ℕ × ℕ → Ordering
 by_pair a b = ordering_then (nat_cmp a.0 b.0) (nat_cmp a.1 b.1)
 
-both_equal : (a b : Ordering) → is_eq (ordering_then a b) ≡ is_eq a && is_eq b
-both_equal Less b = refl
-both_equal Equal b = refl
-both_equal Greater b = refl
-
-same_number : (a b : ℕ) → is_eq (nat_cmp a b) ≡ (a == b)
-same_number a b = grind (arith, nat_tests)
-
 same_pair : (lapse serial at n : ℕ) → is_at (by_pair (lapse, serial)) (at, n) ≡ (lapse == at) && (serial == n)
-same_pair lapse serial at n = both_equal (nat_cmp lapse at) (nat_cmp serial n) ∙ ap₂ (λ a b. a && b) (same_number lapse at) (same_number serial n)
+same_pair lapse serial at n = both_equal (nat_cmp lapse at) (nat_cmp serial n) ∙ ap₂ (λ a b. a && b) (cmp_same lapse at) (cmp_same serial n)
 
 turned : (lapse serial at n : ℕ) → (lapse == at) && (serial == n) ≡ (at == lapse) && (n == serial)
 turned lapse serial at n = grind (arith, nat_tests)
@@ -103,7 +97,7 @@ swapped n k = grind (arith, nat_tests)
 
 number_is : (n : ℕ) (ks : List ℕ) → list_any (is_at (nat_cmp n)) ks ≡ list_any (λ k. k == n) ks
 number_is n [] = refl
-number_is n (k ∷ ks) = or_same _ _ _ _ (same_number n k ∙ swapped n k) (number_is n ks)
+number_is n (k ∷ ks) = or_same _ _ _ _ (cmp_same n k ∙ swapped n k) (number_is n ks)
 
 or_right : (b c p : Bool) → b || c ≡ p → (b || false) || c ≡ p
 or_right true c p h = h
@@ -120,7 +114,7 @@ pub noted : (now n lapse serial : ℕ) (rest : List (ℕ × ℕ)) (old new : Lis
 noted now n lapse serial rest old new p low added h =
     let come : nat_le lapse now ≡ true = grind (arith, nat_tests, low) in
     let more : list_any (λ k. k == n) new ≡ (serial == n) || list_any (λ k. k == n) old =
-    sym (number_is n new) ∙ added n ∙ set_or (is_at (nat_cmp serial) n) (list_any (is_at (nat_cmp n)) old) ∙ or_same _ _ _ _ (same_number serial n) (number_is n old) in
+    sym (number_is n new) ∙ added n ∙ set_or (is_at (nat_cmp serial) n) (list_any (is_at (nat_cmp n)) old) ∙ or_same _ _ _ _ (cmp_same serial n) (number_is n old) in
     or_moved (list_any (λ k. k == n) old) (serial == n) (is_past now n rest) (list_any (λ k. k == n) new) p more (rw come at h)
 
 -- where none of the others has come, all are noted

@@ -7,6 +7,7 @@ use Rattle.std.proofs.lemmas.Bool.Decides.{nat_tests}
 use Rattle.lists.specs.Rising.{RisesFrom, find as find_by, put}
 use Rattle.lists.proofs.RisingLaws.{find_below, find-put, find_key}
 use Rattle.lists.proofs.SameBytes.{same_bytes, bytes_eq_self, bytes_eq_sym}
+use Rattle.schema_model.proofs.FieldCounts.{and_no}
 use Rattle.room_model.specs.declared.event.RoomEvent.{RoomEvent}
 use Rattle.room_model.specs.declared.event.RoomEvent.TheVariants as event
 use Rattle.room_model.specs.declared.event.RoomOut.{RoomOut}
@@ -18,7 +19,6 @@ use Rattle.hub_model.specs.declared.event.HubOut.TheVariants as out
 use Rattle.hub_model.specs.Dealt.{Dealt, RoomStep, conns_left, dealt, dealt_from, ends, to_conn, told_out, with_room}
 use Rattle.hub_model.specs.HubStep.{event_if}
 use Rattle.hub_model.specs.HubValues.{HubRoom, conn_for, is_conn_for}
-use Rattle.hub_core.proofs.IdleLaws.{and_false}
 use Rattle.hub_core.specs.declared.parts.Parts.{Parts}
 use Rattle.hub_core.specs.declared.entry.RoomEntry.{RoomEntry}
 use Rattle.hub_core.specs.Endings.{ended_by, is_of, without_all}
@@ -86,7 +86,9 @@ module _ {R : Type 0} (room : R → RoomValue) (step : RoomStep) (at : ℕ) wher
         let behind : lapsed room step at (n ∷ rest) ss ≡ lapsed room step at rest ss = later_same n (suc x.serial) rest ss rise.1 (grind (arith, nat_tests, here)) in
         ap₂ (λ l ds. g (dealt step (room_in room x) l) (over g e ds)) (own_moment x here) behind
         ∙ ap (λ (y : RoomEntry R). g (dealt step (room_in room y) (ev ∷ [])) (over g e (lapsed room step at rest ss))) one
-        ∙ ap (λ y. g (dealt step (room_in room s) (ev ∷ [])) y) (sym (ap (λ l. over g e (lapsed room step at rest l)) place ∙ (ap (λ l. g (dealt step (room_in room t) l) (over g e (lapsed room step at rest ss))) (none_of n rest rises t.serial (grind (arith, same))) ∙ silent (room_in room t) (over g e (lapsed room step at rest ss)))))
+        ∙ ap (λ y. g (dealt step (room_in room s) (ev ∷ [])) y)
+        (sym (ap (λ l. over g e (lapsed room step at rest l)) place
+        ∙ (ap (λ l. g (dealt step (room_in room t) l) (over g e (lapsed room step at rest ss))) (none_of n rest rises t.serial (grind (arith, same))) ∙ silent (room_in room t) (over g e (lapsed room step at rest ss)))))
     over_first g e silent low x ss rise found others false other =
         let behind : find_by serial_of n ss ≡ Some s = rw other at found in
         let place : put serial_of t (x ∷ ss) ≡ x ∷ put serial_of t ss = grind (arith, nat_tests, other, same, behind, find_below serial_of (suc x.serial) ss n rise.1) in
@@ -94,7 +96,10 @@ module _ {R : Type 0} (room : R → RoomValue) (step : RoomStep) (at : ℕ) wher
         ap (λ l. g (dealt step (room_in room x) l) (over g e (lapsed room step at (n ∷ rest) ss))) (no_moment x low)
         ∙ silent (room_in room x) (over g e (lapsed room step at (n ∷ rest) ss))
         ∙ others behind
-        ∙ ap (λ y. g (dealt step (room_in room s) (ev ∷ [])) y) (sym (ap (λ l. over g e (lapsed room step at rest l)) place ∙ (ap (λ l. g (dealt step (room_in room x) l) (over g e (lapsed room step at rest (put serial_of t ss)))) (none_of n rest rises x.serial (grind (arith, low))) ∙ silent (room_in room x) (over g e (lapsed room step at rest (put serial_of t ss))))))
+        ∙ ap (λ y. g (dealt step (room_in room s) (ev ∷ [])) y)
+        (sym (ap (λ l. over g e (lapsed room step at rest l)) place
+        ∙ (ap (λ l. g (dealt step (room_in room x) l) (over g e (lapsed room step at rest (put serial_of t ss)))) (none_of n rest rises x.serial (grind (arith, low)))
+        ∙ silent (room_in room x) (over g e (lapsed room step at rest (put serial_of t ss))))))
 
     over_lapsed : {X : Type 0} (g : Dealt → X → X) (e : X) → ((r : HubRoom) (y : X) → g (dealt step r []) y ≡ y) → (low : ℕ) (ss : List (RoomEntry R)) → RisesFrom serial_of low ss → find_by serial_of n ss ≡ Some s
         → over g e (lapsed room step at (n ∷ rest) ss) ≡ g (dealt step (room_in room s) (ev ∷ [])) (over g e (lapsed room step at rest (put serial_of t ss)))
@@ -122,13 +127,15 @@ module _ {R : Type 0} (room : R → RoomValue) (step : RoomStep) (at : ℕ) wher
         let behind : lapsed room step at (n ∷ rest) ss ≡ lapsed room step at rest ss = later_same n (suc x.serial) rest ss rise.1 (grind (arith, nat_tests, here)) in
         ap₂ (λ l ds. (dealt step (room_in room x) l).room ∷ map (λ (d : Dealt). d.room) ds) (own_moment x here) behind
         ∙ ap (λ (r : HubRoom). r ∷ map (λ (d : Dealt). d.room) (lapsed room step at rest ss)) (ap (λ (y : RoomEntry R). (dealt step (room_in room y) (ev ∷ [])).room) one ∙ sym is)
-        ∙ sym (ap (λ l. map (λ (d : Dealt). d.room) (lapsed room step at rest l)) place ∙ ap (λ l. (dealt step (room_in room t) l).room ∷ map (λ (d : Dealt). d.room) (lapsed room step at rest ss)) (none_of n rest rises t.serial (grind (arith, same))))
+        ∙ sym (ap (λ l. map (λ (d : Dealt). d.room) (lapsed room step at rest l)) place
+        ∙ ap (λ l. (dealt step (room_in room t) l).room ∷ map (λ (d : Dealt). d.room) (lapsed room step at rest ss)) (none_of n rest rises t.serial (grind (arith, same))))
     rooms_first low x ss is rise found others false other =
         let behind : find_by serial_of n ss ≡ Some s = rw other at found in
         let place : put serial_of t (x ∷ ss) ≡ x ∷ put serial_of t ss = grind (arith, nat_tests, other, same, behind, find_below serial_of (suc x.serial) ss n rise.1) in
         let low : x.serial < n = grind (arith, nat_tests, other, behind, find_below serial_of (suc x.serial) ss n rise.1) in
         ap₂ (λ l rs. (dealt step (room_in room x) l).room ∷ rs) (no_moment x low) (others behind)
-        ∙ sym (ap (λ l. map (λ (d : Dealt). d.room) (lapsed room step at rest l)) place ∙ ap (λ l. (dealt step (room_in room x) l).room ∷ map (λ (d : Dealt). d.room) (lapsed room step at rest (put serial_of t ss))) (none_of n rest rises x.serial (grind (arith, low))))
+        ∙ sym (ap (λ l. map (λ (d : Dealt). d.room) (lapsed room step at rest l)) place
+        ∙ ap (λ l. (dealt step (room_in room x) l).room ∷ map (λ (d : Dealt). d.room) (lapsed room step at rest (put serial_of t ss))) (none_of n rest rises x.serial (grind (arith, low))))
 
     lapsed_from : (low : ℕ) (ss : List (RoomEntry R)) → room_in room t ≡ with_room (room_in room s) (step (room s.room) ev).0 → RisesFrom serial_of low ss → find_by serial_of n ss ≡ Some s
         → map (λ (d : Dealt). d.room) (lapsed room step at (n ∷ rest) ss) ≡ map (λ (d : Dealt). d.room) (lapsed room step at rest (put serial_of t ss))
@@ -144,7 +151,8 @@ module _ {R : Type 0} (room : R → RoomValue) (step : RoomStep) (at : ℕ) wher
     left_twice p q r either [] = refl
     left_twice p q r either (c ∷ cs) = ap₂ (λ b l. cond (not b) (c ∷ l) l) (either c) (left_twice p q r either cs) ∙ by_tests (q c) (r c) refl
       where
-        by_tests : (a b : Bool) → r c ≡ b → cond (not (a || b)) (c ∷ filter (λ c. not (r c)) (filter (λ c. not (q c)) cs)) (filter (λ c. not (r c)) (filter (λ c. not (q c)) cs)) ≡ filter (λ c. not (r c)) (cond (not a) (c ∷ filter (λ c. not (q c)) cs) (filter (λ c. not (q c)) cs))
+        by_tests : (a b : Bool) → r c ≡ b → cond (not (a || b)) (c ∷ filter (λ c. not (r c)) (filter (λ c. not (q c)) cs)) (filter (λ c. not (r c)) (filter (λ c. not (q c)) cs))
+            ≡ filter (λ c. not (r c)) (cond (not a) (c ∷ filter (λ c. not (q c)) cs) (filter (λ c. not (q c)) cs))
         by_tests true b h = refl
         by_tests false true h = rw h refl
         by_tests false false h = rw h refl
@@ -153,7 +161,7 @@ module _ {R : Type 0} (room : R → RoomValue) (step : RoomStep) (at : ℕ) wher
         → conns_left (lapsed room step at (n ∷ rest) ss) cs ≡ conns_left (lapsed room step at rest (put serial_of t ss)) (without_all s.id (flat_map ended_by (step (room s.room) ev).1) cs)
     lapsed_conns ss cs rise found =
         left_twice (λ c. list_any (ends c) (lapsed room step at (n ∷ rest) ss)) (is_of s.id (flat_map ended_by (step (room s.room) ev).1)) (λ c. list_any (ends c) (lapsed room step at rest (put serial_of t ss)))
-        (λ c. lapsed_any (ends c) (λ r. and_false (bytes_eq r.id c.room)) ss rise found
+        (λ c. lapsed_any (ends c) (λ r. and_no (bytes_eq r.id c.room)) ss rise found
         ∙ ap (λ b. b || list_any (ends c) (lapsed room step at rest (put serial_of t ss))) (ap₂ (λ a b. a && b) (bytes_eq_sym s.id c.room) (ended_any c.session (step (room s.room) ev).1))) cs
 
 -- ---- what other rooms give doesn't rest on the connections that a room ended
@@ -209,7 +217,8 @@ pub are_apart : {R : Type 0} (n : ℕ) (s : RoomEntry R) (ss : List (RoomEntry R
 are_apart n s [] alone found own = absurd cc
 are_apart {R = R} n s (x ∷ ss) alone found own = by_number (x.serial == n) refl found own (λ rest own. are_apart n s ss alone.1 rest own)
   where
-    by_id : (x.serial == n) ≡ false → find_by serial_of n ss ≡ Some s → (b : Bool) → bytes_eq x.id s.id ≡ b → cond b (Some x) (find (has_id s.id) ss) ≡ Some s → (find_by serial_of n ss ≡ Some s → find (has_id s.id) ss ≡ Some s → Apart n s.id ss) → Apart n s.id (x ∷ ss)
+    by_id : (x.serial == n) ≡ false → find_by serial_of n ss ≡ Some s → (b : Bool) → bytes_eq x.id s.id ≡ b → cond b (Some x) (find (has_id s.id) ss) ≡ Some s
+        → (find_by serial_of n ss ≡ Some s → find (has_id s.id) ss ≡ Some s → Apart n s.id ss) → Apart n s.id (x ∷ ss)
     by_id other at true here is rest =
         let one : x ≡ s = cc in
         let number : s.serial ≡ n = find_key serial_of n ss s at in
@@ -240,10 +249,12 @@ told_apart {R = R} room step at n id xs cs rest (x ∷ ss) none apart = ap₂ (�
     by_number true here =
         let number : x.serial ≡ n = grind (arith, nat_tests, here) in
         let silent : moment_of at rest x.serial ≡ [] = ap (λ b. event_if b (event.Moment at)) (ap (λ m. list_any (λ k. k == m) rest) number ∙ none) in
-        subst (λ es. flat_map (told_out cs (dealt step (room_in room x) es).room.id) (dealt step (room_in room x) es).outs ≡ flat_map (told_out (without_all id xs cs) (dealt step (room_in room x) es).room.id) (dealt step (room_in room x) es).outs) (sym silent) refl
+        subst (λ es. flat_map (told_out cs (dealt step (room_in room x) es).room.id) (dealt step (room_in room x) es).outs ≡ flat_map (told_out (without_all id xs cs) (dealt step (room_in room x) es).room.id)
+        (dealt step (room_in room x) es).outs) (sym silent) refl
     by_number false other =
         given_still (told_out cs (dealt step (room_in room x) (moment_of at rest x.serial)).room.id) (told_out (without_all id xs cs) (dealt step (room_in room x) (moment_of at rest x.serial)).room.id)
-        (told_still cs (without_all id xs cs) (dealt step (room_in room x) (moment_of at rest x.serial)).room.id (λ s. conn_still id (dealt step (room_in room x) (moment_of at rest x.serial)).room.id s xs cs (ap (λ k. bytes_eq k id) (id_is (moment_of at rest x.serial)) ∙ apart.0 other)))
+        (told_still cs (without_all id xs cs) (dealt step (room_in room x) (moment_of at rest x.serial)).room.id
+        (λ s. conn_still id (dealt step (room_in room x) (moment_of at rest x.serial)).room.id s xs cs (ap (λ k. bytes_eq k id) (id_is (moment_of at rest x.serial)) ∙ apart.0 other)))
         (dealt step (room_in room x) (moment_of at rest x.serial)).outs
 
 -- ---- one turn after another
@@ -263,7 +274,8 @@ pub record Lapsing {R : Type 0} (room : R → RoomValue) (Holds : RoomValue → 
   pub process : now.process ≡ old.process
   pub defs : now.defs ≡ old.defs
 
-pub lapsing_first : {R : Type 0} (room : R → RoomValue) (Holds : RoomValue → Type 0) (step : RoomStep) (at : ℕ) (due : List ℕ) (old : Parts R) (before : List HubOut) → InOrder room Holds old → RisesFrom itself 0 due → AreThere due old.registry.rooms → Each (IsNeeded room) old.registry.rooms
+pub lapsing_first : {R : Type 0} (room : R → RoomValue) (Holds : RoomValue → Type 0) (step : RoomStep) (at : ℕ) (due : List ℕ) (old : Parts R) (before : List HubOut) → InOrder room Holds old
+    → RisesFrom itself 0 due → AreThere due old.registry.rooms → Each (IsNeeded room) old.registry.rooms
     → Lapsing room Holds step at due due old old before before
 lapsing_first room Holds step at due old before order rises there needed = record {
   rooms = refl;
@@ -303,7 +315,7 @@ no_told room step at cs (x ∷ ss) = no_told room step at cs ss
 
 no_ends : {R : Type 0} (room : R → RoomValue) (step : RoomStep) (at : ℕ) (c : HubConn) (ss : List (RoomEntry R)) → list_any (ends c) (lapsed room step at [] ss) ≡ false
 no_ends room step at c [] = refl
-no_ends room step at c (x ∷ ss) = rw (and_false (bytes_eq x.id c.room)) (no_ends room step at c ss)
+no_ends room step at c (x ∷ ss) = rw (and_no (bytes_eq x.id c.room)) (no_ends room step at c ss)
 
 no_conns : {R : Type 0} (room : R → RoomValue) (step : RoomStep) (at : ℕ) (ss : List (RoomEntry R)) (cs : List HubConn) → conns_left (lapsed room step at [] ss) cs ≡ cs
 no_conns room step at ss [] = refl
@@ -326,7 +338,8 @@ lapsing_last {R = R} room Holds step at due rest old now before outs none l = re
 }
 
 -- behind one more
-module _ {R : Type 0} (room : R → RoomValue) (is_spent : R → Bool) (Holds : RoomValue → Type 0) (step : RoomStep) (at n : ℕ) (due rest : List ℕ) (old now new : Parts R) (before outs more : List HubOut) (l : Lapsing room Holds step at due (n ∷ rest) old now before outs)
+module _ {R : Type 0} (room : R → RoomValue) (is_spent : R → Bool) (Holds : RoomValue → Type 0) (step : RoomStep) (at n : ℕ) (due rest : List ℕ) (old now new : Parts R)
+    (before outs more : List HubOut) (l : Lapsing room Holds step at due (n ∷ rest) old now before outs)
     (ordered : AreOrdered now.registry.rooms) (turned : IfSome (find_by serial_of n now.registry.rooms) (λ s. Turned room is_spent step (event.Moment at) s now new outs more)) (order : InOrder room Holds new) where
   is_due : list_any (λ k. k == n) due ≡ true
   is_due = l.within n (first_there n rest)
@@ -369,12 +382,14 @@ module _ {R : Type 0} (room : R → RoomValue) (is_spent : R → Bool) (Holds : 
   same = sym (ap (λ (r : HubRoom). r.id) it.holds.stepped.is)
 
   found_t : find_by serial_of n (put serial_of t now.registry.rooms) ≡ Some t
-  found_t = stepped_found room is_spent n s now.registry.rooms (put serial_of t now.registry.rooms) (step (room s.room) (event.Moment at)).0 (record { now = t; serial = it.holds.stepped.serial; rooms = refl; is = it.holds.stepped.is; fresh = it.holds.stepped.fresh }) it.is
+  found_t = stepped_found room is_spent n s now.registry.rooms (put serial_of t now.registry.rooms) (step (room s.room) (event.Moment at)).0
+      (record { now = t; serial = it.holds.stepped.serial; rooms = refl; is = it.holds.stepped.is; fresh = it.holds.stepped.fresh }) it.is
 
   apart : Apart n s.id (put serial_of t now.registry.rooms)
   apart =
       subst (λ k. Apart n k (put serial_of t now.registry.rooms)) (sym same)
-      (are_apart n t (put serial_of t now.registry.rooms) (HaveOwnIds-put 0 s t now.registry.rooms ordered.0 ordered.1 there_is same) found_t (find_put 0 s t now.registry.rooms t.id ordered.0 ordered.1 there_is same ∙ ap (λ b. cond b (Some t) (find (has_id t.id) now.registry.rooms)) (bytes_eq_self t.id)))
+      (are_apart n t (put serial_of t now.registry.rooms) (HaveOwnIds-put 0 s t now.registry.rooms ordered.0 ordered.1 there_is same) found_t
+      (find_put 0 s t now.registry.rooms t.id ordered.0 ordered.1 there_is same ∙ ap (λ b. cond b (Some t) (find (has_id t.id) now.registry.rooms)) (bytes_eq_self t.id)))
 
   tells_now : more ++ told_of new.conns (lapsed room step at rest new.registry.rooms) ≡ before ++ told_of old.conns (lapsed room step at due old.registry.rooms)
   tells_now =

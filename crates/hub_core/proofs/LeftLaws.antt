@@ -43,7 +43,8 @@ pub record Leaving {R : Type 0} (room : R → RoomValue) (Holds : RoomValue → 
   pub process : now.process ≡ old.process
   pub defs : now.defs ≡ old.defs
 
-pub leaving_first : {R : Type 0} (room : R → RoomValue) (Holds : RoomValue → Type 0) (due : List ℕ) (old : Parts R) (before : List HubOut) → InOrder room Holds old → RisesFrom itself 0 due → AreThere due old.registry.rooms → NeededBut room due old.registry.rooms → Leaving room Holds due old old before before
+pub leaving_first : {R : Type 0} (room : R → RoomValue) (Holds : RoomValue → Type 0) (due : List ℕ) (old : Parts R) (before : List HubOut) → InOrder room Holds old → RisesFrom itself 0 due
+    → AreThere due old.registry.rooms → NeededBut room due old.registry.rooms → Leaving room Holds due old old before before
 leaving_first room Holds due old before order rises there needed = record {
   rooms = refl;
   tells = refl;
@@ -58,7 +59,8 @@ leaving_first room Holds due old before order rises there needed = record {
   defs = refl;
 }
 
-pub leaving_last : {R : Type 0} (room : R → RoomValue) (Holds : RoomValue → Type 0) (rest : List ℕ) (old now : Parts R) (before outs : List HubOut) → rest ≡ [] → AreOrdered now.registry.rooms → Leaving room Holds rest old now before outs → AllLeft room Holds old now before outs
+pub leaving_last : {R : Type 0} (room : R → RoomValue) (Holds : RoomValue → Type 0) (rest : List ℕ) (old now : Parts R) (before outs : List HubOut) → rest ≡ [] → AreOrdered now.registry.rooms
+    → Leaving room Holds rest old now before outs → AllLeft room Holds old now before outs
 leaving_last {R = R} room Holds rest old now before outs none ordered l = record {
   rooms = sym (all_stay room 0 now.registry.rooms ordered.0 all) ∙ l.rooms;
   outs = sym (append-nil outs) ∙ (ap (λ x. outs ++ x) (sym (ap (map (λ (r : HubRoom). out.Disposed r.id)) (none_go room 0 now.registry.rooms ordered.0 all))) ∙ l.tells);
@@ -77,7 +79,8 @@ leaving_last {R = R} room Holds rest old now before outs none ordered l = record
 -- ---- one room
 
 -- the first room that isn't needed is the first that is disposed of
-gone_first : {R : Type 0} (room : R → RoomValue) (n low : ℕ) (t : RoomEntry R) (rest : List ℕ) (ss : List (RoomEntry R)) → RisesFrom serial_of low ss → RisesFrom itself (suc n) rest → find_by serial_of n ss ≡ Some t → NeededBut room (n ∷ rest) ss → is_needed (room_in room t) ≡ false
+gone_first : {R : Type 0} (room : R → RoomValue) (n low : ℕ) (t : RoomEntry R) (rest : List ℕ) (ss : List (RoomEntry R)) → RisesFrom serial_of low ss → RisesFrom itself (suc n) rest
+    → find_by serial_of n ss ≡ Some t → NeededBut room (n ∷ rest) ss → is_needed (room_in room t) ≡ false
     → disposals (rooms_in room ss) ≡ out.Disposed t.id ∷ disposals (rooms_in room (remove serial_of n ss))
 gone_first room n low t rest [] rises later found needed gone = absurd cc
 gone_first {R = R} room n low t rest (x ∷ ss) rises later found needed gone =
@@ -98,7 +101,8 @@ gone_first {R = R} room n low t rest (x ∷ ss) rises later found needed gone =
         let own : is_needed (room_in room x) ≡ true = Each-first (λ s. list_any (λ k. k == s.serial) (n ∷ rest) ≡ false → IsNeeded room s) x ss needed none in
         rw (own, other) (others behind ∙ ap (λ l. out.Disposed t.id ∷ l) (sym (rw own refl)))
 
-needed_same : {R : Type 0} (room : R → RoomValue) (n low : ℕ) (t : RoomEntry R) (ss : List (RoomEntry R)) → RisesFrom serial_of low ss → find_by serial_of n ss ≡ Some t → is_needed (room_in room t) ≡ false → filter is_needed (rooms_in room (remove serial_of n ss)) ≡ filter is_needed (rooms_in room ss)
+needed_same : {R : Type 0} (room : R → RoomValue) (n low : ℕ) (t : RoomEntry R) (ss : List (RoomEntry R)) → RisesFrom serial_of low ss → find_by serial_of n ss ≡ Some t
+    → is_needed (room_in room t) ≡ false → filter is_needed (rooms_in room (remove serial_of n ss)) ≡ filter is_needed (rooms_in room ss)
 needed_same room n low t [] rises found gone = absurd cc
 needed_same {R = R} room n low t (x ∷ ss) rises found gone = by_number (x.serial == n) refl (λ behind. needed_same room n (suc x.serial) t ss rises.1 behind gone)
   where
@@ -113,7 +117,8 @@ needed_same {R = R} room n low t (x ∷ ss) rises found gone = by_number (x.seri
         let behind : find_by serial_of n ss ≡ Some t = rw other at found in
         rw other (ap (λ l. cond (is_needed (room_in room x)) (room_in room x ∷ l) l) (others behind))
 
-module _ {R : Type 0} (room : R → RoomValue) (Holds : RoomValue → Type 0) (handled : RoomStep) (laws : Lawful Holds handled) (n : ℕ) (rest : List ℕ) (old now : Parts R) (left : Registry R) (before outs more : List HubOut) (l : Leaving room Holds (n ∷ rest) old now before outs)
+module _ {R : Type 0} (room : R → RoomValue) (Holds : RoomValue → Type 0) (handled : RoomStep) (laws : Lawful Holds handled) (n : ℕ) (rest : List ℕ) (old now : Parts R) (left : Registry R)
+    (before outs more : List HubOut) (l : Leaving room Holds (n ∷ rest) old now before outs)
     (ordered : AreOrdered now.registry.rooms) (left_are : IfSome (find_by serial_of n now.registry.rooms) (λ t. left.rooms ≡ (if is_needed (room_in room t) then now.registry.rooms else remove serial_of n now.registry.rooms)))
     (told_is : IfSome (find_by serial_of n now.registry.rooms) (λ t. more ≡ outs ++ disposals (room_in room t ∷ []))) (kept : IsKept room left) (count : length left.open_rooms.items ≡ length now.registry.open_rooms.items) where
   abbrev Left : RoomEntry R → Type 0
@@ -138,7 +143,8 @@ module _ {R : Type 0} (room : R → RoomValue) (Holds : RoomValue → Type 0) (h
       by_other : (s : RoomEntry R) → (list_any (λ k. k == s.serial) (n ∷ rest) ≡ false → IsNeeded room s) → (n == s.serial) ≡ false → list_any (λ k. k == s.serial) rest ≡ false → IsNeeded room s
       by_other s h other none = h (ap (λ b. b || list_any (λ k. k == s.serial) rest) other ∙ none)
 
-      by_number : (own : is_needed (room_in room t) ≡ true) (s : RoomEntry R) → find_by serial_of m now.registry.rooms ≡ Some s → (list_any (λ k. k == s.serial) (n ∷ rest) ≡ false → IsNeeded room s) → (b : Bool) → (n == s.serial) ≡ b → list_any (λ k. k == s.serial) rest ≡ false → IsNeeded room s
+      by_number : (own : is_needed (room_in room t) ≡ true) (s : RoomEntry R) → find_by serial_of m now.registry.rooms ≡ Some s → (list_any (λ k. k == s.serial) (n ∷ rest) ≡ false → IsNeeded room s)
+          → (b : Bool) → (n == s.serial) ≡ b → list_any (λ k. k == s.serial) rest ≡ false → IsNeeded room s
       by_number own s is h false other none = by_other s h other none
       by_number own s is h true here none =
           let key : s.serial ≡ m = find_key serial_of m now.registry.rooms s is in
@@ -147,11 +153,13 @@ module _ {R : Type 0} (room : R → RoomValue) (Holds : RoomValue → Type 0) (h
           let same : s ≡ t = cc in
           subst (IsNeeded room) (sym same) own
 
-      all_found : (own : is_needed (room_in room t) ≡ true) (o : Option (RoomEntry R)) → find_by serial_of m now.registry.rooms ≡ o → IfSome o (λ s. list_any (λ k. k == s.serial) (n ∷ rest) ≡ false → IsNeeded room s) → IfSome o (λ s. list_any (λ k. k == s.serial) rest ≡ false → IsNeeded room s)
+      all_found : (own : is_needed (room_in room t) ≡ true) (o : Option (RoomEntry R)) → find_by serial_of m now.registry.rooms ≡ o → IfSome o (λ s. list_any (λ k. k == s.serial) (n ∷ rest) ≡ false → IsNeeded room s)
+          → IfSome o (λ s. list_any (λ k. k == s.serial) rest ≡ false → IsNeeded room s)
       all_found own None is h = tt
       all_found own (Some s) is h = by_number own s is h (n == s.serial) refl
 
-      others_found : (n == m) ≡ false → (o : Option (RoomEntry R)) → find_by serial_of m now.registry.rooms ≡ o → IfSome o (λ s. list_any (λ k. k == s.serial) (n ∷ rest) ≡ false → IsNeeded room s) → IfSome o (λ s. list_any (λ k. k == s.serial) rest ≡ false → IsNeeded room s)
+      others_found : (n == m) ≡ false → (o : Option (RoomEntry R)) → find_by serial_of m now.registry.rooms ≡ o → IfSome o (λ s. list_any (λ k. k == s.serial) (n ∷ rest) ≡ false → IsNeeded room s)
+          → IfSome o (λ s. list_any (λ k. k == s.serial) rest ≡ false → IsNeeded room s)
       others_found apart None is h = tt
       others_found apart (Some s) is h = by_other s h (let key : s.serial ≡ m = find_key serial_of m now.registry.rooms s is in grind (arith, nat_tests, key, apart))
 
@@ -198,7 +206,8 @@ module _ {R : Type 0} (room : R → RoomValue) (Holds : RoomValue → Type 0) (h
       by_need true own = rw own refl
       by_need false gone = rw gone (sym (gone_first room n 0 t rest now.registry.rooms ordered.0 l.rises.1 it.is l.needed gone))
 
-  pub leaving_next : (new : Parts R) → new.registry ≡ left → new.conns ≡ now.conns → new.moment ≡ now.moment → new.schema ≡ now.schema → new.process ≡ now.process → new.defs ≡ now.defs → new.session_rooms ≡ now.session_rooms → Leaving room Holds rest old new before more
+  pub leaving_next : (new : Parts R) → new.registry ≡ left → new.conns ≡ now.conns → new.moment ≡ now.moment → new.schema ≡ now.schema → new.process ≡ now.process → new.defs ≡ now.defs
+      → new.session_rooms ≡ now.session_rooms → Leaving room Holds rest old new before more
   leaving_next new registry conns moment schema process defs session_rooms = record {
     rooms = ap (λ (g : Registry R). filter is_needed (rooms_in room g.rooms)) registry ∙ (rooms_now ∙ l.rooms);
     tells = ap₂ (λ m (g : Registry R). m ++ disposals (rooms_in room g.rooms)) tells registry ∙ (append_assoc outs (disposals (room_in room t ∷ [])) (disposals (rooms_in room left.rooms)) ∙ (ap (λ x. outs ++ x) told_now ∙ l.tells));

@@ -32,10 +32,12 @@ relisted olds d key n b o new at step = (
         step other m ∙ ap (λ q. cond (bytes_eq key other && (n == m)) b (option_map_or (λ l. is_open_at l other m) q false)) (sym there)
     by_def k other m false here = refl
 
-pub added_at : (olds : List OpenRooms) (d : ℕ) (key : List ℕ) (n : ℕ) (o new : OpenRooms) → d < length olds → o ≡ get_or olds d o → ((k : List ℕ) (i : ℕ) → is_open_at new k i ≡ ((bytes_eq key k && (n == i)) || is_open_at o k i)) → Relisted d key n true olds (set olds d new)
+pub added_at : (olds : List OpenRooms) (d : ℕ) (key : List ℕ) (n : ℕ) (o new : OpenRooms) → d < length olds → o ≡ get_or olds d o
+    → ((k : List ℕ) (i : ℕ) → is_open_at new k i ≡ ((bytes_eq key k && (n == i)) || is_open_at o k i)) → Relisted d key n true olds (set olds d new)
 added_at olds d key n o new less is step = relisted olds d key n true o new (slice_get-get_or olds d o less ∙ ap Some (sym is)) (λ k i. step k i ∙ sym (or_is (bytes_eq key k && (n == i)) (is_open_at o k i)))
 
-pub taken_at : (olds : List OpenRooms) (d : ℕ) (key : List ℕ) (n : ℕ) (o new : OpenRooms) → d < length olds → o ≡ get_or olds d o → ((k : List ℕ) (i : ℕ) → is_open_at new k i ≡ (not (bytes_eq key k && (n == i)) && is_open_at o k i)) → Relisted d key n false olds (set olds d new)
+pub taken_at : (olds : List OpenRooms) (d : ℕ) (key : List ℕ) (n : ℕ) (o new : OpenRooms) → d < length olds → o ≡ get_or olds d o
+    → ((k : List ℕ) (i : ℕ) → is_open_at new k i ≡ (not (bytes_eq key k && (n == i)) && is_open_at o k i)) → Relisted d key n false olds (set olds d new)
 taken_at olds d key n o new less is step = relisted olds d key n false o new (slice_get-get_or olds d o less ∙ ap Some (sym is)) (λ k i. step k i ∙ sym (and_is (bytes_eq key k && (n == i)) (is_open_at o k i)))
 
 -- one more without rooms

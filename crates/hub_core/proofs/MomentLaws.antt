@@ -62,7 +62,8 @@ lapsed_so room step at low due (x ∷ ss) rises each =
 -- ---- behind it
 
 -- the step, where these rooms have the moment
-module _ {R : Type 0} (room : R → RoomValue) (Holds : RoomValue → Type 0) (step : RoomStep) (now at : ℕ) (due : List ℕ) (old : Parts R) (entry : Stands room Holds old) (ordered : AreOrdered old.registry.rooms) (at_is : max old.moment (min now last_moment) ≡ at)
+module _ {R : Type 0} (room : R → RoomValue) (Holds : RoomValue → Type 0) (step : RoomStep) (now at : ℕ) (due : List ℕ) (old : Parts R) (entry : Stands room Holds old)
+    (ordered : AreOrdered old.registry.rooms) (at_is : max old.moment (min now last_moment) ≡ at)
     (due_are : (n : ℕ) → list_any (λ k. k == n) due ≡ is_past at n old.registry.lapses) where
   abbrev pub ds : List Dealt
   ds = lapsed room step at due old.registry.rooms

@@ -108,7 +108,8 @@ module _ {R : Type 0} (room : R → RoomValue) (d : ℕ) (criteria : List (List 
       rest n true here h = ap (is_listed room d criteria) (find_below serial_of (suc x.serial) ss n rises.1 (grind (arith, nat_tests, here)))
       rest n false other h = h
 
-  first_fit : (low n : ℕ) (ss : List (RoomEntry R)) → RisesFrom serial_of low ss → is_listed room d criteria (find_by serial_of n ss) ≡ true → ((m : ℕ) → is_listed room d criteria (find_by serial_of m ss) ≡ true → n ≤ m) → find fits ss ≡ find_by serial_of n ss
+  first_fit : (low n : ℕ) (ss : List (RoomEntry R)) → RisesFrom serial_of low ss → is_listed room d criteria (find_by serial_of n ss) ≡ true
+      → ((m : ℕ) → is_listed room d criteria (find_by serial_of m ss) ≡ true → n ≤ m) → find fits ss ≡ find_by serial_of n ss
   first_fit low n [] rises is least = absurd cc
   first_fit low n (x ∷ ss) rises is least = by_first (x.serial == n) refl is (λ h above. first_fit (suc x.serial) n ss rises.1 h above)
     where
@@ -116,7 +117,8 @@ module _ {R : Type 0} (room : R → RoomValue) (d : ℕ) (criteria : List (List 
       first = grind (arith, nat_tests)
 
       by_first : (b : Bool) → (x.serial == n) ≡ b → is_listed room d criteria (cond b (Some x) (find_by serial_of n ss)) ≡ true
-          → (is_listed room d criteria (find_by serial_of n ss) ≡ true → ((m : ℕ) → is_listed room d criteria (find_by serial_of m ss) ≡ true → n ≤ m) → find fits ss ≡ find_by serial_of n ss) → cond (fits x) (Some x) (find fits ss) ≡ cond b (Some x) (find_by serial_of n ss)
+          → (is_listed room d criteria (find_by serial_of n ss) ≡ true → ((m : ℕ) → is_listed room d criteria (find_by serial_of m ss) ≡ true → n ≤ m) → find fits ss ≡ find_by serial_of n ss)
+          → cond (fits x) (Some x) (find fits ss) ≡ cond b (Some x) (find_by serial_of n ss)
       by_first true here h rest = rw h refl
       by_first false other h rest = by_fit (fits x) refl
         where
@@ -218,7 +220,8 @@ module _ {R : Type 0} (room : R → RoomValue) where
     listed_gone before after r d few criteria n =
         let less : d < length olds = subst (λ m. d < m) r.0 few in
         by_test (λ n. is_open_in news d (criteria_key criteria) n ≡ is_listed room d criteria (find_by serial_of n now)) n
-        (λ here. own_number d criteria n here (cell false d criteria r ∙ (taken_cell (t.def == d) (bytes_eq (criteria_key t.criteria) (criteria_key criteria)) (is_open_in olds d (criteria_key criteria) t.serial) (listed d less criteria t.serial ∙ before d criteria)
+        (λ here. own_number d criteria n here (cell false d criteria r
+        ∙ (taken_cell (t.def == d) (bytes_eq (criteria_key t.criteria) (criteria_key criteria)) (is_open_in olds d (criteria_key criteria) t.serial) (listed d less criteria t.serial ∙ before d criteria)
         ∙ sym (after d criteria))))
         (λ other. elsewhere false d criteria n less other r)
 
@@ -227,7 +230,8 @@ module _ {R : Type 0} (room : R → RoomValue) where
     listed_new before after r d few criteria n =
         let less : d < length olds = subst (λ m. d < m) r.0 few in
         by_test (λ n. is_open_in news d (criteria_key criteria) n ≡ is_listed room d criteria (find_by serial_of n now)) n
-        (λ here. own_number d criteria n here (cell true d criteria r ∙ (added_cell (t.def == d) (bytes_eq (criteria_key t.criteria) (criteria_key criteria)) (is_open_in olds d (criteria_key criteria) t.serial) (listed d less criteria t.serial ∙ before d criteria)
+        (λ here. own_number d criteria n here (cell true d criteria r
+        ∙ (added_cell (t.def == d) (bytes_eq (criteria_key t.criteria) (criteria_key criteria)) (is_open_in olds d (criteria_key criteria) t.serial) (listed d less criteria t.serial ∙ before d criteria)
         ∙ sym (after d criteria))))
         (λ other. elsewhere true d criteria n less other r)
 

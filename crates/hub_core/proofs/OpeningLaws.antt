@@ -6,6 +6,7 @@ use Rattle.std.specs.Option.{option_and_then, option_map}
 use Rattle.std.specs.Str.{bytes_eq}
 use Rattle.std.proofs.lemmas.Bool.{and_parts}
 use Rattle.lists.specs.Rising.{find as find_by}
+use Rattle.lists.proofs.Options.{none_there}
 use Rattle.room_model.specs.declared.event.RoomEvent.{RoomEvent}
 use Rattle.room_model.specs.declared.event.RoomEvent.TheVariants as event
 use Rattle.room_model.specs.declared.refusal.Refusal.TheVariants as refusal
@@ -94,10 +95,6 @@ opens_there {R = R} room p target o is = by_target (read_target target) is
     by_target None none = absurd cc
     by_target (Some x) one = by_test x (bytes_eq x.process p.process && is_some (room_of (hub_of room p) x.room)) refl one
 
-pub is_free : {X : Type 0} (o : Option X) → is_some o ≡ false → o ≡ None
-is_free None h = refl
-is_free (Some x) h = absurd cc
-
 module _ {R : Type 0} (room : R → RoomValue) (Holds : RoomValue → Type 0) (step : RoomStep) (p : Parts R) (entry : Stands room Holds p) (ordered : AreOrdered p.registry.rooms) (conn : ℕ) (target fresh : List ℕ) (before after : List HubOut) where
   stay : filter is_needed (rooms_in room p.registry.rooms) ≡ rooms_in room p.registry.rooms
   stay = all_stay room 0 p.registry.rooms ordered.0 entry.needed
@@ -115,15 +112,17 @@ module _ {R : Type 0} (room : R → RoomValue) (Holds : RoomValue → Type 0) (s
       by_found None is some = absurd cc
       by_found (Some c) is some = refused (out.Refused refusal.ConnInUse ∷ []) (used_step (rules_of step) (hub_of room p) conn target fresh c is stay gone) outs
 
-  pub opening_nowhere : is_some (find_by conn_number conn p.conns) ≡ false → None ≡ opening_of (hub_of room p) target → after ≡ before ++ refused_opening conn 4212 (codes "no such room") → Takes room Holds step (happened.Opening conn target fresh) p p before after
+  pub opening_nowhere : is_some (find_by conn_number conn p.conns) ≡ false → None ≡ opening_of (hub_of room p) target → after ≡ before ++ refused_opening conn 4212 (codes "no such room")
+      → Takes room Holds step (happened.Opening conn target fresh) p p before after
   opening_nowhere free none outs =
-      refused (refused_opening conn 4212 (codes "no such room")) (nowhere_step (rules_of step) (hub_of room p) conn target fresh (is_free (find_by conn_number conn p.conns) free) (sym none) stay gone) outs
+      refused (refused_opening conn 4212 (codes "no such room")) (nowhere_step (rules_of step) (hub_of room p) conn target fresh (none_there (find_by conn_number conn p.conns) free) (sym none) stay gone) outs
 
 pub takes_entered : {R A E : Type 0} (room : R → RoomValue) (Holds : RoomValue → Type 0) (step : RoomStep) (old new : Parts R) (before after : List HubOut) (conn : ℕ) (target fresh : List ℕ) (o : Opening) (r : Result A E)
-    → is_some (find_by conn_number conn old.conns) ≡ false → Some o ≡ opening_of (hub_of room old) target → OnOk r (hub_of room new ≡ (entered_in step (hub_of room old) conn fresh o).0) → OnOk r (after ≡ before ++ (entered_in step (hub_of room old) conn fresh o).1)
+    → is_some (find_by conn_number conn old.conns) ≡ false → Some o ≡ opening_of (hub_of room old) target → OnOk r (hub_of room new ≡ (entered_in step (hub_of room old) conn fresh o).0)
+    → OnOk r (after ≡ before ++ (entered_in step (hub_of room old) conn fresh o).1)
     → OnOk r (Stands room Holds new) → OnOk r (Takes room Holds step (happened.Opening conn target fresh) old new before after)
 takes_entered room Holds step old new before after conn target fresh o (Ok a) free opens hub outs stands =
-    let is = entered_step (rules_of step) (hub_of room old) conn target fresh o (is_free (find_by conn_number conn old.conns) free) (sym opens) in
+    let is = entered_step (rules_of step) (hub_of room old) conn target fresh o (none_there (find_by conn_number conn old.conns) free) (sym opens) in
     record { hub = hub ∙ sym (ap (λ x. x.0) is); outs = outs ∙ sym (ap (λ x. before ++ x.1) is); stands = stands }
 takes_entered room Holds step old new before after conn target fresh o (Err f) free opens hub outs stands = tt
 
@@ -131,5 +130,5 @@ takes_entered room Holds step old new before after conn target fresh o (Err f) f
 pub opening_cost : {R : Type 0} (room : R → RoomValue) (costs : RoomValue → RoomEvent → ℕ) (step : RoomStep) (p : Parts R) (conn : ℕ) (target fresh : List ℕ) (o : Opening) (new old : ℕ) → is_some (find_by conn_number conn p.conns) ≡ false
     → Some o ≡ opening_of (hub_of room p) target → new ≤ old + cost_in room costs p.registry.rooms o.room (event.Enter o.session o.token fresh) → new ≤ old + hub_cost costs (rules_of step) (hub_of room p) (happened.Opening conn target fresh)
 opening_cost room costs step p conn target fresh o new old free opens cost =
-    let opened : opened_by (hub_of room p) conn target ≡ Some o = free_opens (hub_of room p) conn target (is_free (find_by conn_number conn p.conns) free) ∙ sym opens in
+    let opened : opened_by (hub_of room p) conn target ≡ Some o = free_opens (hub_of room p) conn target (none_there (find_by conn_number conn p.conns) free) ∙ sym opens in
     event_cost room costs (rules_of step) p (happened.Opening conn target fresh) o.room (event.Enter o.session o.token fresh) new old (λ r. ap (event_of_opening r fresh) opened) cost

@@ -9,6 +9,7 @@ use Rattle.std.proofs.lemmas.List.Folds.{find_at}
 use Rattle.std.proofs.lemmas.Option.{slice_get_within, slice_get-map}
 use Rattle.lists.specs.Rising.{RisesFrom}
 use Rattle.lists.proofs.SameBytes.{same_bytes}
+use Rattle.lists.proofs.Passing.{found_passes}
 use Rattle.room_model.specs.declared.definition.RoomDef.{RoomDef}
 use Rattle.room_model.specs.Ledger.{kept_by}
 use Rattle.room_model.specs.Room.{RoomValue}
@@ -25,7 +26,7 @@ use Rattle.hub_model.specs.Decisions.{decide, in_def, is_open, joined_at, joined
 use Rattle.hub_model.specs.HubStep.{kept_session}
 use Rattle.hub_model.specs.HubValues.{HubRoom, HubValue, listing_of, listings, room_of}
 use Rattle.hub_laws.proofs.Decided.{position_passes}
-use Rattle.hub_laws.proofs.Different.{found_passes, find-map}
+use Rattle.hub_laws.proofs.Different.{find-map}
 use Rattle.hub_core.specs.declared.parts.Parts.{Parts}
 use Rattle.hub_core.specs.declared.entry.RoomEntry.{RoomEntry}
 use Rattle.schema_model.specs.Ids.{is_id}
@@ -206,8 +207,10 @@ module _ {R : Type 0} (room : R → RoomValue) (p : Parts R) (q : Request) where
         by_token None = refl
         by_token (Some token) = ap (option_and_then (λ (r : HubRoom). kept_by r.room.seats token)) (room_found room q.name ss ∙ ap (option_map (room_in room)) found)
 
-    pub leads_there : is_by_id q.method ≡ true → Leads ss (length p.defs) q.criteria (decide h.defs (listings h) q (kept_session h q)) (outcome_in s.serial [] (decide h.defs (listed (room_in room s) ∷ []) q (option_and_then (kept_by (room s.room).seats) q.token)))
-    leads_there by = subst (λ k. Leads ss (length p.defs) q.criteria (decide h.defs (listings h) q k) (outcome_in s.serial [] (decide h.defs one q (option_and_then (kept_by (room s.room).seats) q.token)))) (sym keeps) (id_there q.method (option_and_then (kept_by (room s.room).seats) q.token) by)
+    pub leads_there : is_by_id q.method ≡ true → Leads ss (length p.defs) q.criteria (decide h.defs (listings h) q (kept_session h q))
+        (outcome_in s.serial [] (decide h.defs (listed (room_in room s) ∷ []) q (option_and_then (kept_by (room s.room).seats) q.token)))
+    leads_there by = subst (λ k. Leads ss (length p.defs) q.criteria (decide h.defs (listings h) q k) (outcome_in s.serial [] (decide h.defs one q (option_and_then (kept_by (room s.room).seats) q.token))))
+        (sym keeps) (id_there q.method (option_and_then (kept_by (room s.room).seats) q.token) by)
 
 -- ---- by a definition
 

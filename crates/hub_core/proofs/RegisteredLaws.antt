@@ -67,7 +67,8 @@ stepped_found room is_spent n s old new after step was =
     let same : (step.now.serial == n) ≡ true = grind (arith, nat_tests, number) in
     ap (find_by serial_of n) step.rooms ∙ find-put serial_of step.now old n ∙ ap (λ b. cond b (Some step.now) (find_by serial_of n old)) same
 
-pub stepped_at : {R : Type 0} (room : R → RoomValue) (is_spent : R → Bool) (n : ℕ) (s t : RoomEntry R) (old new : List (RoomEntry R)) (after : RoomValue) (step : IsStepped room is_spent s old new after) → find_by serial_of n old ≡ Some s → find_by serial_of n new ≡ Some t
+pub stepped_at : {R : Type 0} (room : R → RoomValue) (is_spent : R → Bool) (n : ℕ) (s t : RoomEntry R) (old new : List (RoomEntry R)) (after : RoomValue) (step : IsStepped room is_spent s old new after)
+    → find_by serial_of n old ≡ Some s → find_by serial_of n new ≡ Some t
     → step.now ≡ t
 stepped_at room is_spent n s t old new after step was now =
     let one : Some step.now ≡ Some t = sym (stepped_found room is_spent n s old new after step was) ∙ now in cc
@@ -171,10 +172,12 @@ module _ {R : Type 0} (room : R → RoomValue) (is_spent : R → Bool) (n : ℕ)
         let all : new.rooms ≡ put serial_of now old.rooms = rooms ∙ stepped.rooms in
         let own : IsStatus (room now.room).seats now.status = subst (λ (q : Seats). IsStatus q now.status) (sym seats) (subst (IsStatus (room was.room).seats) (sym status) shown_was) in
         let still : opens_of room now ≡ opens_of room was = ap (λ (q : Seats). not q.locked && nat_lt (in_use q) q.max) seats in
-        let has : (at : ℕ) → has_lapse old.lapses at now.serial ≡ is_moment at was.status.lapse = λ at. kept.noted.has at now.serial ∙ ap (is_moment at) (one_next room (find_by serial_of now.serial old.rooms) (kept.noted.next now.serial) was.status.lapse (kept.noted.of now.serial) next_was) in
+        let has : (at : ℕ) → has_lapse old.lapses at now.serial ≡ is_moment at was.status.lapse = λ at. kept.noted.has at now.serial
+        ∙ ap (is_moment at) (one_next room (find_by serial_of now.serial old.rooms) (kept.noted.next now.serial) was.status.lapse (kept.noted.of now.serial) next_was) in
         record {
           shown = rw all (Each-put (IsShown room) now old.rooms kept.shown own);
-          noted = rw (all, lapses) (AreNoted-put room old.rooms old.lapses old.lapses now was.status.lapse was.status.lapse next_was (subst (λ l. IsNextLapse (room now.room).seats l) (ap (λ (s : RoomStatus). s.lapse) status) own.lapse) (same_exchanged now.serial was.status.lapse old.lapses has) kept.noted);
+          noted = rw (all, lapses) (AreNoted-put room old.rooms old.lapses old.lapses now was.status.lapse was.status.lapse next_was
+              (subst (λ l. IsNextLapse (room now.room).seats l) (ap (λ (s : RoomStatus). s.lapse) status) own.lapse) (same_exchanged now.serial was.status.lapse old.lapses has) kept.noted);
           listed = rw all (listed_same room now old.rooms (put serial_of now old.rooms) old.open_rooms.items new.open_rooms.items (elsewhere_put room now old.rooms) kept.listed (opens_of room was)
               (as_found room now was old.rooms own_at def_same criteria_same)
               (λ d cs. as_found room now now (put serial_of now old.rooms) (subst (λ ss. find_by serial_of now.serial ss ≡ Some now) stepped.rooms here_at) refl refl d cs ∙ ap (λ b. b && matches room d cs now) still)
@@ -184,17 +187,20 @@ module _ {R : Type 0} (room : R → RoomValue) (is_spent : R → Bool) (n : ℕ)
 
 -- ---- a room took a step that its places stay in
 
-module _ {R : Type 0} (room : R → RoomValue) (is_spent : R → Bool) (handled : RoomValue → RoomEvent → RoomValue × List RoomOut) (Holds : RoomValue → Type 0) (quiet : (r : RoomValue) (e : RoomEvent) → Holds r → may_happen r e ≡ true → KeepsPlaces r e (handled r e))
+module _ {R : Type 0} (room : R → RoomValue) (is_spent : R → Bool) (handled : RoomValue → RoomEvent → RoomValue × List RoomOut) (Holds : RoomValue → Type 0)
+    (quiet : (r : RoomValue) (e : RoomEvent) → Holds r → may_happen r e ≡ true → KeepsPlaces r e (handled r e))
     (n : ℕ) (old new : Registry R) (mid : List (RoomEntry R)) (e : RoomEvent) (outs : List RoomOut) (kept : IsKept room old) (some : IsSome (find_by serial_of n old.rooms)) where
   abbrev After : RoomEntry R → RoomValue
   After s = (handled (room s.room) e).0
 
-  pub kept_still : Step room is_spent n After old.rooms mid → StepChanges room e outs None n old.rooms mid → IfSome (find_by serial_of n old.rooms) (λ s. outs ≡ (handled (room s.room) e).1) → IfSome (find_by serial_of n old.rooms) (λ s. Holds (room s.room))
+  pub kept_still : Step room is_spent n After old.rooms mid → StepChanges room e outs None n old.rooms mid → IfSome (find_by serial_of n old.rooms) (λ s. outs ≡ (handled (room s.room) e).1)
+      → IfSome (find_by serial_of n old.rooms) (λ s. Holds (room s.room))
       → IfSome (find_by serial_of n old.rooms) (λ s. may_happen (room s.room) e ≡ true) → new.rooms ≡ mid → new.lapses ≡ old.lapses → new.open_rooms.items ≡ old.open_rooms.items → IsKept room new
   kept_still step changes given holds happen rooms lapses opens =
       let s = was room is_spent n old mid After kept some step in
       let at : find_by serial_of n old.rooms ≡ Some s = was_at room is_spent n old mid After kept some step in
-      let stays : KeepsPlaces (room s.room) e (handled (room s.room) e) = quiet (room s.room) e (of_there (find_by serial_of n old.rooms) s (λ x. Holds (room x.room)) at holds) (of_there (find_by serial_of n old.rooms) s (λ x. may_happen (room x.room) e ≡ true) at happen) in
+      let stays : KeepsPlaces (room s.room) e (handled (room s.room) e) =
+      quiet (room s.room) e (of_there (find_by serial_of n old.rooms) s (λ x. Holds (room x.room)) at holds) (of_there (find_by serial_of n old.rooms) s (λ x. may_happen (room x.room) e ≡ true) at happen) in
       let change = change_is room is_spent n old mid After kept some step e outs None changes in
       let none : list_any is_ending (handled (room s.room) e).1 ≡ false = ap (list_any is_ending) (sym (of_there (find_by serial_of n old.rooms) s (λ x. outs ≡ (handled (room x.room) e).1) at given)) ∙ change.1 in
       let behind : room (now room is_spent n old mid After kept some step).room ≡ After s = ap (λ (r : HubRoom). r.room) (stepped room is_spent n old mid After kept some step).is in
@@ -209,7 +215,8 @@ module _ {R : Type 0} (room : R → RoomValue) (n : ℕ) (s : RoomEntry R) (old 
   shown_of : IsShown room s
   shown_of = of_there (find_by serial_of n old.rooms) s (IsShown room) at (kept.shown n)
 
-  pub kept_removed : new.rooms ≡ remove serial_of n old.rooms → ((at m : ℕ) → has_lapse new.lapses at m ≡ (not (is_moment at s.status.lapse && (n == m)) && has_lapse old.lapses at m)) → Relists s s.status.is_open false old.open_rooms.items new.open_rooms.items
+  pub kept_removed : new.rooms ≡ remove serial_of n old.rooms → ((at m : ℕ) → has_lapse new.lapses at m ≡ (not (is_moment at s.status.lapse && (n == m)) && has_lapse old.lapses at m))
+      → Relists s s.status.is_open false old.open_rooms.items new.open_rooms.items
       → IsKept room new × (length new.open_rooms.items ≡ length old.open_rooms.items)
   kept_removed rooms lapses relists =
       let count = count_relists room s s.status.is_open false old.open_rooms.items new.open_rooms.items relists in
@@ -230,14 +237,16 @@ module _ {R : Type 0} (room : R → RoomValue) (n : ℕ) (s : RoomEntry R) (old 
 -- ---- a room is added
 
 module _ {R : Type 0} (room : R → RoomValue) (s : RoomEntry R) (old new : Registry R) (kept : IsKept room old) (above : IsAbove serial_of s.serial old.rooms) (less : s.def < length old.open_rooms.items) (shown : IsShown room s) where
-  pub kept_added : new.rooms ≡ old.rooms ++ s ∷ [] → Exchanged s.serial None s.status.lapse old.lapses new.lapses → Relists s false s.status.is_open old.open_rooms.items new.open_rooms.items → IsKept room new × (length new.open_rooms.items ≡ length old.open_rooms.items)
+  pub kept_added : new.rooms ≡ old.rooms ++ s ∷ [] → Exchanged s.serial None s.status.lapse old.lapses new.lapses → Relists s false s.status.is_open old.open_rooms.items new.open_rooms.items
+      → IsKept room new × (length new.open_rooms.items ≡ length old.open_rooms.items)
   kept_added rooms exchanged relists =
       let count = count_relists room s false s.status.is_open old.open_rooms.items new.open_rooms.items relists in
       let none : find_by serial_of s.serial old.rooms ≡ None = none_above s.serial old.rooms above in
       let last : find_by serial_of s.serial (old.rooms ++ s ∷ []) ≡ Some s = found_last s.serial s old.rooms above ∙ grind (arith, nat_tests) in (
         record {
           shown = rw rooms (Each-last (IsShown room) s old.rooms above kept.shown shown);
-          noted = rw rooms (noted_with room old.rooms (old.rooms ++ s ∷ []) old.lapses new.lapses s.serial (Some s) None s.status.lapse (λ m. found_last m s old.rooms above) (subst (λ o. IsNextOf room o None) (sym none) refl) shown.lapse exchanged kept.noted);
+          noted = rw rooms (noted_with room old.rooms (old.rooms ++ s ∷ []) old.lapses new.lapses s.serial (Some s) None s.status.lapse (λ m. found_last m s old.rooms above)
+              (subst (λ o. IsNextOf room o None) (sym none) refl) shown.lapse exchanged kept.noted);
           listed = rw rooms (listed_now room s old.rooms (old.rooms ++ s ∷ []) old.open_rooms.items new.open_rooms.items (elsewhere_added room s old.rooms) kept.listed false s.status.is_open
               (as_none room s old.rooms none)
               (λ d cs. as_found room s s (old.rooms ++ s ∷ []) last refl refl d cs ∙ ap (λ b. b && matches room d cs s) (sym shown.is_open)) relists);

@@ -28,7 +28,7 @@ pub HaveOwnIds-last : {R : Type 0} (s : RoomEntry R) (ss : List (RoomEntry R)) �
 HaveOwnIds-last s [] new own = (refl, tt)
 HaveOwnIds-last s (x ∷ ss) new own = grind (arith, bytes_eq-Decides, new, own.0, own.1, HaveOwnIds-last s ss, find_last s ss x.id)
 
--- the room of a number is found by its id own
+-- the room of a number is found by its id alone
 found_id : {R : Type 0} (n : ℕ) (s : RoomEntry R) (ss : List (RoomEntry R)) → find_by serial_of n ss ≡ Some s → find (has_id s.id) ss ≡ None → ⊥
 found_id n s [] found none = absurd cc
 found_id n s (x ∷ ss) found none = grind (arith, nat_tests, bytes_eq-Decides, found, none, found_id n s ss)
@@ -142,7 +142,8 @@ find_high key high k x (y ∷ xs) below found = grind (arith, nat_tests, below.0
 -- ---- all that is kept of them
 
 -- a room is added
-pub rooms_added : {R : Type 0} (s : RoomEntry R) (at : RoomRef) (ss : List (RoomEntry R)) (es fs : List (List ℕ × RoomRef)) (next : ℕ) → AreRooms ss es next → s.serial ≡ next → at.serial ≡ s.serial → find (has_id s.id) ss ≡ None → Renamed s.id (Some at) es fs
+pub rooms_added : {R : Type 0} (s : RoomEntry R) (at : RoomRef) (ss : List (RoomEntry R)) (es fs : List (List ℕ × RoomRef)) (next : ℕ) → AreRooms ss es next → s.serial ≡ next
+    → at.serial ≡ s.serial → find (has_id s.id) ss ≡ None → Renamed s.id (Some at) es fs
     → AreRooms (ss ++ s ∷ []) fs (suc next)
 rooms_added s at ss es fs next are last number new step = record {
   below = IsAbove-append serial_of (suc next) ss (s ∷ []) (IsAbove-higher serial_of next (suc next) ss are.below (grind arith)) (grind (arith, last), tt);
@@ -165,7 +166,8 @@ rooms_removed n s ss es fs next are rises found step = record {
 }
 
 -- one is exchanged for one of its number and id
-pub rooms_put : {R : Type 0} (s t : RoomEntry R) (ss : List (RoomEntry R)) (es : List (List ℕ × RoomRef)) (next : ℕ) → AreRooms ss es next → RisesFrom serial_of 0 ss → find_by serial_of t.serial ss ≡ Some s → s.id ≡ t.id → AreRooms (put serial_of t ss) es next
+pub rooms_put : {R : Type 0} (s t : RoomEntry R) (ss : List (RoomEntry R)) (es : List (List ℕ × RoomRef)) (next : ℕ) → AreRooms ss es next → RisesFrom serial_of 0 ss
+    → find_by serial_of t.serial ss ≡ Some s → s.id ≡ t.id → AreRooms (put serial_of t ss) es next
 rooms_put s t ss es next are rises found same = record {
   below = IsAbove-put serial_of next t ss are.below (subst (λ k. k < next) (find_key serial_of t.serial ss s found) (find_high serial_of next t.serial s ss are.below found));
   own_ids = HaveOwnIds-put 0 s t ss rises are.own_ids found same;
@@ -173,7 +175,8 @@ rooms_put s t ss es next are rises found same = record {
 }
 
 -- one is exchanged for itself
-pub rooms_kept : {R : Type 0} (n : ℕ) (ss new : List (RoomEntry R)) (es : List (List ℕ × RoomRef)) (next : ℕ) → AreRooms ss es next → RisesFrom serial_of 0 ss → IsSome (find_by serial_of n ss) → IfSome (find_by serial_of n ss) (λ s. IsExchanged s ss new)
+pub rooms_kept : {R : Type 0} (n : ℕ) (ss new : List (RoomEntry R)) (es : List (List ℕ × RoomRef)) (next : ℕ) → AreRooms ss es next → RisesFrom serial_of 0 ss → IsSome (find_by serial_of n ss)
+    → IfSome (find_by serial_of n ss) (λ s. IsExchanged s ss new)
     → AreRooms new es next
 rooms_kept {R = R} n ss new es next are rises there h = by_found (find_by serial_of n ss) refl there h
   where
@@ -197,10 +200,6 @@ three_ok P Q T S (Err e) f p q t = tt
 pub one_ok : {A E : Type 0} (P Q : Type 0) (r : Result A E) → (P → Q) → OnOk r P → OnOk r Q
 one_ok P Q (Ok a) f p = f p
 one_ok P Q (Err e) f p = tt
-
-pub ok_always : {A E : Type 0} (P : Type 0) (r : Result A E) → P → OnOk r P
-ok_always P (Ok a) p = p
-ok_always P (Err e) p = tt
 
 -- a list that has something more where it is Ok
 pub pushed_ok : {A E X : Type 0} (r : Result A E) (new old more : List X) → new ≡ (if is_ok r then old ++ more else old) → OnOk r (new ≡ old ++ more)

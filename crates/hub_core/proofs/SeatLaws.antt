@@ -74,7 +74,8 @@ reply_same h r session name l is named = ap₂ (λ (l : Listing) n. seat_reply l
 
 -- ---- a room that is made
 
-module _ {R : Type 0} (room : R → RoomValue) (Holds : RoomValue → Type 0) (begins : (schema : Schema) (def : RoomDef) (criteria : List (List ℕ)) → Holds (new_room schema def criteria)) (d : RoomDef) (at : ℕ) (criteria : List (List ℕ)) (id : List ℕ) (old : Parts R) (order : InOrder room Holds old) (it : RoomEntry R)
+module _ {R : Type 0} (room : R → RoomValue) (Holds : RoomValue → Type 0) (begins : (schema : Schema) (def : RoomDef) (criteria : List (List ℕ)) → Holds (new_room schema def criteria))
+    (d : RoomDef) (at : ℕ) (criteria : List (List ℕ)) (id : List ℕ) (old : Parts R) (order : InOrder room Holds old) (it : RoomEntry R)
     (is : room_in room it ≡ room_made (hub_of room old) criteria id at d) (above : IsAbove serial_of it.serial old.registry.rooms) (named : is_id id ≡ true) where
   pub free_made : (n : List ℕ) → has_session (room it.room) n ≡ false
   free_made n = ap (λ (r : HubRoom). has_session r.room n) is
@@ -103,7 +104,8 @@ module _ {R : Type 0} (room : R → RoomValue) (Holds : RoomValue → Type 0) (b
       let parts = and_parts (is_of_one room old.registry.rooms c) (list_all (is_of_one room old.registry.rooms) cs) h in
       rw (still_of c parts.0) (all_of cs parts.1)
 
-  pub order_added : (new : Parts R) → new.registry.rooms ≡ old.registry.rooms ++ it ∷ [] → IsKept room new.registry → length new.registry.open_rooms.items ≡ length old.registry.open_rooms.items → new.conns ≡ old.conns → new.moment ≡ old.moment → new.defs ≡ old.defs → new.process ≡ old.process → new.session_rooms ≡ old.session_rooms → InOrder room Holds new
+  pub order_added : (new : Parts R) → new.registry.rooms ≡ old.registry.rooms ++ it ∷ [] → IsKept room new.registry → length new.registry.open_rooms.items ≡ length old.registry.open_rooms.items
+      → new.conns ≡ old.conns → new.moment ≡ old.moment → new.defs ≡ old.defs → new.process ≡ old.process → new.session_rooms ≡ old.session_rooms → InOrder room Holds new
   order_added new rooms kept count conns moment defs process session_rooms = record {
     kept = kept;
     opens = count ∙ (order.opens ∙ ap length (sym defs));
@@ -113,7 +115,9 @@ module _ {R : Type 0} (room : R → RoomValue) (Holds : RoomValue → Type 0) (b
     few = rw defs order.few;
     forms = rw defs order.forms;
     process = rw process order.process;
-    housed = subst (Each (IsHoused room new.session_rooms)) (sym rooms) (subst (λ hs. Each (IsHoused room hs) (old.registry.rooms ++ it ∷ [])) (sym session_rooms) (Each-last (IsHoused room old.session_rooms) it old.registry.rooms above order.housed (λ n h. absurd (let none : has_session (room it.room) n ≡ false = free_made n in cc))));
+    housed = subst (Each (IsHoused room new.session_rooms)) (sym rooms)
+        (subst (λ hs. Each (IsHoused room hs) (old.registry.rooms ++ it ∷ [])) (sym session_rooms)
+        (Each-last (IsHoused room old.session_rooms) it old.registry.rooms above order.housed (λ n h. absurd (let none : has_session (room it.room) n ≡ false = free_made n in cc))));
   }
 
 -- ---- a reservation
@@ -126,7 +130,8 @@ quiet_named room step h session id n (x ∷ ss) apart =
 pub may_reserve : (r : RoomValue) (session : List ℕ) (lapse : ℕ) → lapse < 2 ^ 54 → has_place_for r session ≡ true → may_happen r (event.Reserve session lapse) ≡ true
 may_reserve r session lapse early place = and_from (is_moment lapse) (has_place_for r session) (grind (arith, nat_tests, early)) place
 
-module _ {R : Type 0} (room : R → RoomValue) (is_spent : R → Bool) (Holds : RoomValue → Type 0) (handled : RoomStep) (laws : Lawful Holds handled) (session : List ℕ) (lapse n conn : ℕ) (old mid : Parts R) (left : Registry R) (before middle replied : List HubOut)
+module _ {R : Type 0} (room : R → RoomValue) (is_spent : R → Bool) (Holds : RoomValue → Type 0) (handled : RoomStep) (laws : Lawful Holds handled) (session : List ℕ) (lapse n conn : ℕ)
+    (old mid : Parts R) (left : Registry R) (before middle replied : List HubOut)
     (order : InOrder room Holds old) (needed : Each (λ s. (s.serial == n) ≡ false → IsNeeded room s) old.registry.rooms) (ordered : AreOrdered old.registry.rooms) (s : RoomEntry R) (at : find_by serial_of n old.registry.rooms ≡ Some s)
     (lapse_is : lapse ≡ old.moment + (def_of_room old.defs (room_in room s)).seat) (may : may_happen (room s.room) (event.Reserve session lapse) ≡ true) (turned : Turned room is_spent handled (event.Reserve session lapse) s old mid before middle)
     (replied_is : IfSome (find_by serial_of n mid.registry.rooms) (λ t. replied ≡ middle ++ out.Reply conn (seat_text (hub_of room mid) session (room_in room t)) ∷ []))
@@ -200,7 +205,8 @@ module _ {R : Type 0} (room : R → RoomValue) (is_spent : R → Bool) (Holds : 
 
   reply_is : out.Reply conn (seat_text (hub_of room mid) session (room_in room t)) ≡ seat_out h conn session s.id (map (λ (d : Dealt). d.room) ds)
   reply_is =
-      let found_now : find (has_id s.id) (put serial_of t old.registry.rooms) ≡ Some t = find_put 0 s t old.registry.rooms s.id ordered.0 ordered.1 there_is same ∙ ap (λ k. cond (bytes_eq k s.id) (Some t) (find (has_id s.id) old.registry.rooms)) (sym same) ∙ ap (λ b. cond b (Some t) (find (has_id s.id) old.registry.rooms)) (bytes_eq_self s.id) in
+      let found_now : find (has_id s.id) (put serial_of t old.registry.rooms) ≡ Some t = find_put 0 s t old.registry.rooms s.id ordered.0 ordered.1 there_is same
+      ∙ ap (λ k. cond (bytes_eq k s.id) (Some t) (find (has_id s.id) old.registry.rooms)) (sym same) ∙ ap (λ b. cond b (Some t) (find (has_id s.id) old.registry.rooms)) (bytes_eq_self s.id) in
       ap₂ (λ ds p. out.Reply conn (seat_text (record { now = h.now; schema = h.schema; process = p; defs = ds; rooms = h.rooms; conns = h.conns }) session (room_in room t))) turned.defs turned.process
       ∙ ap (λ o. out.Reply conn (option_map_or (seat_text h session) o [])) (sym (room_found room s.id (put serial_of t old.registry.rooms) ∙ ap (option_map (room_in room)) found_now))
       ∙ ap (seat_out h conn session s.id) (sym (stepped.rooms_behind room handled es ev s old.registry.rooms ordered own_at quiet own t turned.stepped.serial turned.stepped.is))
@@ -208,10 +214,13 @@ module _ {R : Type 0} (room : R → RoomValue) (is_spent : R → Bool) (Holds : 
   disposed_is : disposals (room_in room t ∷ []) ≡ disposals (map (λ (d : Dealt). d.room) ds)
   disposed_is = sym (stepped.disposed_behind room handled es ev s old.registry.rooms ordered own_at quiet own t turned.stepped.serial turned.stepped.is needed_but)
 
-  pub seated : (new : Parts R) (after : List HubOut) → IfSome (find_by serial_of n mid.registry.rooms) (λ t. after ≡ replied ++ disposals (room_in room t ∷ [])) → InOrder room Holds mid → AreOrdered mid.registry.rooms → IsKept room left → length left.open_rooms.items ≡ length mid.registry.open_rooms.items
-      → new.registry ≡ left → new.conns ≡ mid.conns → new.moment ≡ mid.moment → new.schema ≡ mid.schema → new.process ≡ mid.process → new.defs ≡ mid.defs → new.session_rooms ≡ mid.session_rooms → Seated room Holds handled conn session s old new before after
+  pub seated : (new : Parts R) (after : List HubOut) → IfSome (find_by serial_of n mid.registry.rooms) (λ t. after ≡ replied ++ disposals (room_in room t ∷ [])) → InOrder room Holds mid
+      → AreOrdered mid.registry.rooms → IsKept room left → length left.open_rooms.items ≡ length mid.registry.open_rooms.items
+      → new.registry ≡ left → new.conns ≡ mid.conns → new.moment ≡ mid.moment → new.schema ≡ mid.schema → new.process ≡ mid.process → new.defs ≡ mid.defs → new.session_rooms ≡ mid.session_rooms
+      → Seated room Holds handled conn session s old new before after
   seated new after after_is order_mid ordered_mid kept count registry conns moment schema process defs session_rooms = record {
-    hub = rw (ap (λ (g : Registry R). g.rooms) registry, conns, moment, schema, process, defs, turned.moment, turned.schema, turned.process, turned.defs) (ap₂ (λ rs cs. record { now = old.moment; schema = old.schema; process = old.process; defs = old.defs; rooms = rs; conns = cs }) rooms_left conns_are);
+    hub = rw (ap (λ (g : Registry R). g.rooms) registry, conns, moment, schema, process, defs, turned.moment, turned.schema, turned.process, turned.defs)
+        (ap₂ (λ rs cs. record { now = old.moment; schema = old.schema; process = old.process; defs = old.defs; rooms = rs; conns = cs }) rooms_left conns_are);
     outs =
         of_there (find_by serial_of n mid.registry.rooms) t (λ t. after ≡ replied ++ disposals (room_in room t ∷ [])) now_at after_is
         ∙ ap₂ (λ r d. r ++ d) (of_there (find_by serial_of n mid.registry.rooms) t (λ t. replied ≡ middle ++ out.Reply conn (seat_text (hub_of room mid) session (room_in room t)) ∷ []) now_at replied_is) disposed_is

@@ -8,11 +8,11 @@ use Rattle.std.proofs.lemmas.Map.Text.{is_eq-slice_cmp}
 use Rattle.lists.specs.Rising.{RisesFrom, find as find_by, put}
 use Rattle.lists.proofs.RisingLaws.{find_key}
 use Rattle.lists.proofs.SameBytes.{same_bytes, bytes_eq_self, bytes_eq_sym}
+use Rattle.lists.proofs.Passing.{found_passes}
 use Rattle.room_model.specs.declared.event.RoomEvent.{RoomEvent}
 use Rattle.room_model.specs.Room.{RoomValue}
 use Rattle.room_laws.specs.Names.{KeepsNames, has_session, reserves}
 use Rattle.hub_model.specs.HubValues.{knows}
-use Rattle.hub_laws.proofs.Different.{found_passes}
 use Rattle.hub_core.specs.declared.entry.RoomEntry.{RoomEntry}
 use Rattle.hub_core.specs.SessionRooms.{IsHoused, has_in, room_of_session}
 use Rattle.hub_core.specs.RoomEntry.{Each, has_id, rooms_in, serial_of}
@@ -53,7 +53,8 @@ module _ {R : Type 0} (room : R → RoomValue) (id : List ℕ) (n : ℕ) (sessio
 
 -- ---- a room behind a step
 
-pub housed_stepped : {R : Type 0} (room : R → RoomValue) (session_rooms : List (List ℕ × ℕ)) (ev : RoomEvent) (after : RoomValue) (s t : RoomEntry R) (ss : List (RoomEntry R)) → KeepsNames (room s.room) ev after → room t.room ≡ after → t.serial ≡ s.serial
+pub housed_stepped : {R : Type 0} (room : R → RoomValue) (session_rooms : List (List ℕ × ℕ)) (ev : RoomEvent) (after : RoomValue) (s t : RoomEntry R) (ss : List (RoomEntry R))
+    → KeepsNames (room s.room) ev after → room t.room ≡ after → t.serial ≡ s.serial
     → ((id : List ℕ) → reserves ev ≡ Some id → room_of_session id session_rooms ≡ Some s.serial) → IsHoused room session_rooms s → Each (IsHoused room session_rooms) ss → Each (IsHoused room session_rooms) (put serial_of t ss)
 housed_stepped {R = R} room session_rooms ev after s t ss names now number reserved own all = Each-put (IsHoused room session_rooms) t ss all (λ id has. by_name id (names id (subst (λ r. has_session r id ≡ true) now has)) ∙ ap Some (sym number))
   where
@@ -103,7 +104,8 @@ used_is : {R : Type 0} (room : R → RoomValue) (session_rooms : List (List ℕ 
 used_is room session_rooms id ss rises housed = ap (λ b. is_some (find (has_id id) ss) || b) (has_home room session_rooms id ss rises housed) ∙ either_known room id ss
 
 -- the same by the number of the room of the id
-pub used_by : {R : Type 0} (room : R → RoomValue) (session_rooms : List (List ℕ × ℕ)) (id : List ℕ) (ss : List (RoomEntry R)) (o : Option ℕ) → RisesFrom serial_of 0 ss → Each (IsHoused room session_rooms) ss → o ≡ option_map serial_of (find (has_id id) ss)
+pub used_by : {R : Type 0} (room : R → RoomValue) (session_rooms : List (List ℕ × ℕ)) (id : List ℕ) (ss : List (RoomEntry R)) (o : Option ℕ) → RisesFrom serial_of 0 ss
+    → Each (IsHoused room session_rooms) ss → o ≡ option_map serial_of (find (has_id id) ss)
     → (is_some o || option_map_or (λ n. has_in room ss n id) (room_of_session id session_rooms) false) ≡ list_any (knows id) (rooms_in room ss)
 used_by {R = R} room session_rooms id ss o rises housed is = ap (λ b. b || option_map_or (λ n. has_in room ss n id) (room_of_session id session_rooms) false) (ap is_some is ∙ same (find (has_id id) ss)) ∙ used_is room session_rooms id ss rises housed
   where
@@ -129,7 +131,7 @@ none_has {R = R} room id ss none k = by_found (find (has_of room id) ss) refl
 
 -- ---- sessions that rooms still have
 
--- each session of a room leads to it by what is kept or by what is left to status at
+-- each session of a room leads to it by what is kept or by what is left to look at
 abbrev pub AreStill : {R : Type 0} → (R → RoomValue) → List (RoomEntry R) → List (List ℕ × ℕ) → List (List ℕ × ℕ) → Type 0
 AreStill room ss kept rest = (n : ℕ) (id : List ℕ) → has_in room ss n id ≡ true → (room_of_session id kept ≡ Some n) ⊎ (room_of_session id rest ≡ Some n)
 
@@ -144,7 +146,8 @@ module _ {R : Type 0} (room : R → RoomValue) (ss : List (RoomEntry R)) where
   pub still_first : (session_rooms kept : List (List ℕ × ℕ)) → Each (IsHoused room session_rooms) ss → AreStill room ss kept session_rooms
   still_first session_rooms kept housed n id has = inr (home_of session_rooms housed n id has)
 
-  pub still_kept : (session_rooms kept news rest : List (List ℕ × ℕ)) (key : List ℕ) (at : ℕ) → Each (IsHoused room session_rooms) ss → has_in room ss at key ≡ true → Renamed key (Some at) kept news → AreStill room ss kept ((key, at) ∷ rest) → AreStill room ss news rest
+  pub still_kept : (session_rooms kept news rest : List (List ℕ × ℕ)) (key : List ℕ) (at : ℕ) → Each (IsHoused room session_rooms) ss → has_in room ss at key ≡ true
+      → Renamed key (Some at) kept news → AreStill room ss kept ((key, at) ∷ rest) → AreStill room ss news rest
   still_kept session_rooms kept news rest key at housed own step still n id has = by_test (bytes_eq key id) refl (still n id has)
     where
       by_test : (b : Bool) → bytes_eq key id ≡ b → (room_of_session id kept ≡ Some n) ⊎ (room_of_session id ((key, at) ∷ rest) ≡ Some n) → (room_of_session id news ≡ Some n) ⊎ (room_of_session id rest ≡ Some n)

@@ -127,7 +127,8 @@ module _ {R : Type 0} where
       no_number low [] filled over = tt
       no_number low (e ∷ fs) filled over = by_first (slot e.1) filled.0 (no_number low fs filled.1) over
         where
-          by_first : (o : Option (RoomEntry R)) → option_map serial_of o ≡ Some e.0 → (IsAbove serial_of x.serial (in_slots slot fs) → IsAbove entry_number x.serial fs) → IsAbove serial_of x.serial (option_to_list o ++ in_slots slot fs) → IsAbove entry_number x.serial (e ∷ fs)
+          by_first : (o : Option (RoomEntry R)) → option_map serial_of o ≡ Some e.0 → (IsAbove serial_of x.serial (in_slots slot fs) → IsAbove entry_number x.serial fs)
+              → IsAbove serial_of x.serial (option_to_list o ++ in_slots slot fs) → IsAbove entry_number x.serial (e ∷ fs)
           by_first None h rest over = absurd cc
           by_first (Some s) h rest over = (let number : s.serial ≡ e.0 = cc in (subst (λ n. n < x.serial) number over.0, rest over.1))
 
@@ -171,7 +172,8 @@ module _ {R : Type 0} where
       record {
         rises = are.rises;
         filled = filled_same slot back es (λ j n at. by_slot (slot j) refl at) are.filled;
-        noted = λ j s at. are.noted j s (by_place (λ i. back i ≡ Some s → slot i ≡ Some s) k j (λ e own. absurd (let there : back k ≡ Some s = subst (λ i. back i ≡ Some s) e own in let none = out.here in cc)) (λ other own. sym (set.others j other) ∙ (sym (out.others j other) ∙ own)) at);
+        noted = λ j s at. are.noted j s (by_place (λ i. back i ≡ Some s → slot i ≡ Some s) k j (λ e own. absurd (let there : back k ≡ Some s = subst (λ i. back i ≡ Some s) e own in let none = out.here in cc))
+            (λ other own. sym (set.others j other) ∙ (sym (out.others j other) ∙ own)) at);
       },
       slots_same slot back es kept are.filled,
     )
@@ -218,7 +220,8 @@ module _ {R : Type 0} where
         by_found : (o : Option ℕ) → lookup (is_at (nat_cmp n)) es ≡ o → option_and_then now o ≡ cond (t.serial == n) (Some t) (option_and_then slot o)
         by_found None none =
             let apart : (b : Bool) → (t.serial == n) ≡ b → None ≡ cond b (Some t) None = elim [
-              | true ↦ λ h. absurd (let number : s.serial ≡ n = (let k : t.serial ≡ n = grind (arith, nat_tests, h) in sym same ∙ k) in let there = are.noted k s was in let lost : lookup (is_at (nat_cmp n)) es ≡ Some k = subst (λ m. lookup (is_at (nat_cmp m)) es ≡ Some k) number there in cc)
+              | true ↦ λ h. absurd (let number : s.serial ≡ n = (let k : t.serial ≡ n = grind (arith, nat_tests, h) in sym same ∙ k) in let there = are.noted k s was in
+                  let lost : lookup (is_at (nat_cmp n)) es ≡ Some k = subst (λ m. lookup (is_at (nat_cmp m)) es ≡ Some k) number there in cc)
               | false ↦ λ h. refl
             ] in apart (t.serial == n) refl
         by_found (Some j) at =

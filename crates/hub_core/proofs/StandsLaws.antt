@@ -104,7 +104,8 @@ all_left q r p each (c ∷ cs) all = by_test (p c) refl (all_left q r p each cs 
 
 -- ---- rooms that are needed
 
-pub all_needed : {R : Type 0} (room : R → RoomValue) (n : ℕ) (t : RoomEntry R) (ss : List (RoomEntry R)) → find_by serial_of n ss ≡ Some t → is_needed (room_in room t) ≡ true → Each (λ s. (s.serial == n) ≡ false → IsNeeded room s) ss → Each (IsNeeded room) ss
+pub all_needed : {R : Type 0} (room : R → RoomValue) (n : ℕ) (t : RoomEntry R) (ss : List (RoomEntry R)) → find_by serial_of n ss ≡ Some t → is_needed (room_in room t) ≡ true
+    → Each (λ s. (s.serial == n) ≡ false → IsNeeded room s) ss → Each (IsNeeded room) ss
 all_needed {R = R} room n t ss there own others k = by_found (find_by serial_of k ss) refl (others k)
   where
     by_number : (s : RoomEntry R) → find_by serial_of k ss ≡ Some s → (b : Bool) → (s.serial == n) ≡ b → ((s.serial == n) ≡ false → IsNeeded room s) → IsNeeded room s
@@ -199,7 +200,8 @@ module _ {R : Type 0} (room : R → RoomValue) (Holds : RoomValue → Type 0) (h
       or_neither true h = refl
       or_neither false h = h
 
-      by_room : (b : Bool) → bytes_eq c.room s.id ≡ b → (is_of_one room ss c || (b && list_any (is_entry c.session) outs)) ≡ true → (b && list_any (λ s. bytes_eq c.session s) (flat_map ended_by outs)) ≡ false → is_of_one room (put serial_of t ss) c ≡ true
+      by_room : (b : Bool) → bytes_eq c.room s.id ≡ b → (is_of_one room ss c || (b && list_any (is_entry c.session) outs)) ≡ true → (b && list_any (λ s. bytes_eq c.session s) (flat_map ended_by outs)) ≡ false
+          → is_of_one room (put serial_of t ss) c ≡ true
       by_room true here h none =
           let own : c.room ≡ s.id = same_bytes c.room s.id here in
           let before : is_of_one room ss c ≡ connected (room s.room) c.session = ap one_of (ap (λ n. find (has_id n) ss) own ∙ found) in
@@ -273,7 +275,8 @@ module _ {R : Type 0} (room : R → RoomValue) (Holds : RoomValue → Type 0) (h
       by_need true = all
       by_need false = Each-remove P n old.registry.rooms all
 
-  pub order_left : (new : Parts R) → new.registry ≡ left → new.conns ≡ old.conns → new.moment ≡ old.moment → new.defs ≡ old.defs → new.process ≡ old.process → new.session_rooms ≡ old.session_rooms → IsKept room left → length left.open_rooms.items ≡ length old.registry.open_rooms.items → InOrder room Holds new
+  pub order_left : (new : Parts R) → new.registry ≡ left → new.conns ≡ old.conns → new.moment ≡ old.moment → new.defs ≡ old.defs → new.process ≡ old.process → new.session_rooms ≡ old.session_rooms
+      → IsKept room left → length left.open_rooms.items ≡ length old.registry.open_rooms.items → InOrder room Holds new
   order_left new registry conns moment defs process session_rooms kept count = record {
     kept = rw registry kept;
     opens = ap (λ (g : Registry R). length g.open_rooms.items) registry ∙ (count ∙ (order.opens ∙ ap length (sym defs)));
@@ -298,7 +301,8 @@ module _ {R : Type 0} (room : R → RoomValue) (Holds : RoomValue → Type 0) (h
 pub stands_left : {R : Type 0} (room : R → RoomValue) (Holds : RoomValue → Type 0) (handled : RoomStep) (laws : Lawful Holds handled) (n : ℕ) (old new : Parts R) (left : Registry R) → InOrder room Holds old → AreOrdered old.registry.rooms
     → IsSome (find_by serial_of n old.registry.rooms) → Each (λ s. (s.serial == n) ≡ false → IsNeeded room s) old.registry.rooms
     → IfSome (find_by serial_of n old.registry.rooms) (λ t. left.rooms ≡ (if is_needed (room_in room t) then old.registry.rooms else remove serial_of n old.registry.rooms))
-    → IsKept room left → length left.open_rooms.items ≡ length old.registry.open_rooms.items → new.registry ≡ left → new.conns ≡ old.conns → new.moment ≡ old.moment → new.defs ≡ old.defs → new.process ≡ old.process → new.session_rooms ≡ old.session_rooms → Stands room Holds new
+    → IsKept room left → length left.open_rooms.items ≡ length old.registry.open_rooms.items → new.registry ≡ left → new.conns ≡ old.conns → new.moment ≡ old.moment → new.defs ≡ old.defs
+    → new.process ≡ old.process → new.session_rooms ≡ old.session_rooms → Stands room Holds new
 stands_left room Holds handled laws n old new left order ordered some others left_are kept count registry conns moment defs process session_rooms =
     let it = there (find_by serial_of n old.registry.rooms) (λ t. left.rooms ≡ (if is_needed (room_in room t) then old.registry.rooms else remove serial_of n old.registry.rooms)) some left_are in
     record {

@@ -5,6 +5,7 @@ use Rattle.std.specs.List.{flat_map, list_any}
 use Rattle.std.specs.Str.{bytes_eq}
 use Rattle.lists.specs.Rising.{RisesFrom, find as find_by, put, remove}
 use Rattle.lists.proofs.SameBytes.{bytes_eq_sym}
+use Rattle.schema_model.proofs.FieldCounts.{and_no}
 use Rattle.room_model.specs.declared.event.RoomEvent.{RoomEvent}
 use Rattle.room_model.specs.declared.event.RoomOut.{RoomOut}
 use Rattle.room_model.specs.declared.event.RoomOut.TheVariants as room_out
@@ -16,7 +17,6 @@ use Rattle.hub_model.specs.declared.event.HubOut.TheVariants as out
 use Rattle.hub_model.specs.HubValues.{HubRoom}
 use Rattle.hub_model.specs.HubStep.{disposals, is_needed}
 use Rattle.hub_model.specs.Dealt.{Dealt, RoomStep, conns_left, dealt, ends, with_room}
-use Rattle.hub_core.proofs.IdleLaws.{and_false}
 use Rattle.hub_core.specs.declared.entry.RoomEntry.{RoomEntry}
 use Rattle.hub_core.specs.Endings.{ended_by, is_of, without_all}
 use Rattle.hub_core.specs.Hubs.{IsNeeded}
@@ -104,4 +104,4 @@ module _ {R : Type 0} (room : R → RoomValue) (handled : RoomStep) (es : HubRoo
   conns_behind cs = left_same (λ c. list_any (ends c) (all_of room handled es ss)) (is_of s.id (flat_map ended_by outs)) each cs
     where
       each : (c : HubConn) → list_any (ends c) (all_of room handled es ss) ≡ is_of s.id (flat_map ended_by outs) c
-      each c = any_behind (ends c) (λ r. and_false (bytes_eq r.id c.room)) ∙ ap₂ (λ a b. a && b) (bytes_eq_sym s.id c.room) (ended_any c.session outs)
+      each c = any_behind (ends c) (λ r. and_no (bytes_eq r.id c.room)) ∙ ap₂ (λ a b. a && b) (bytes_eq_sym s.id c.room) (ended_any c.session outs)

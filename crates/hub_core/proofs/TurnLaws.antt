@@ -65,8 +65,10 @@ module _ {R : Type 0} (room : R → RoomValue) (is_spent : R → Bool) (Holds : 
   pub were_there : (cs : List HubConn) → list_all (is_of_one room old.registry.rooms) cs ≡ true → list_all may_stay cs ≡ true
   were_there = stands.were_there room Holds handled laws ev s t old.registry.rooms ordered found there_is same now good may
 
-  pub order_stepped : (cs : List HubConn) → list_all may_stay cs ≡ true → (new : Parts R) → new.registry ≡ mid → new.conns ≡ without_all s.id (flat_map ended_by outs) cs → new.moment ≡ old.moment → new.defs ≡ old.defs → new.process ≡ old.process → new.session_rooms ≡ old.session_rooms
-      → IsKept room mid → length mid.open_rooms.items ≡ length old.registry.open_rooms.items → ((k : List ℕ) → reserves ev ≡ Some k → is_id k ≡ true) → ((k : List ℕ) → reserves ev ≡ Some k → room_of_session k old.session_rooms ≡ Some n) → InOrder room Holds new
+  pub order_stepped : (cs : List HubConn) → list_all may_stay cs ≡ true → (new : Parts R) → new.registry ≡ mid → new.conns ≡ without_all s.id (flat_map ended_by outs) cs
+      → new.moment ≡ old.moment → new.defs ≡ old.defs → new.process ≡ old.process → new.session_rooms ≡ old.session_rooms
+      → IsKept room mid → length mid.open_rooms.items ≡ length old.registry.open_rooms.items → ((k : List ℕ) → reserves ev ≡ Some k → is_id k ≡ true)
+      → ((k : List ℕ) → reserves ev ≡ Some k → room_of_session k old.session_rooms ≡ Some n) → InOrder room Holds new
   order_stepped cs all new registry conns moment defs process session_rooms kept count reserved housed =
       let rooms : new.registry.rooms ≡ put serial_of t old.registry.rooms = ap (λ (g : Registry R). g.rooms) registry ∙ behind.rooms in
       record {
@@ -85,7 +87,8 @@ module _ {R : Type 0} (room : R → RoomValue) (is_spent : R → Bool) (Holds : 
       }
 
   -- its places stay where it didn't look at them anew
-  pub same_seats : (change : Option Change) (given : List RoomOut) (changed : Bool) → given ≡ outs → changed ≡ is_some change → StepChanges room ev given change n old.registry.rooms mid.rooms → changed ≡ false → (handled (room s.room) ev).0.seats ≡ (room s.room).seats
+  pub same_seats : (change : Option Change) (given : List RoomOut) (changed : Bool) → given ≡ outs → changed ≡ is_some change → StepChanges room ev given change n old.registry.rooms mid.rooms
+      → changed ≡ false → (handled (room s.room) ev).0.seats ≡ (room s.room).seats
   same_seats (Some c) given changed gives is changes same = absurd (let both : true ≡ false = sym is ∙ same in cc)
   same_seats None given changed gives is changes same =
       let quiet = of_there (find_by serial_of n mid.rooms) t (λ t. Changes room ev given s t None) (stepped_found room is_spent n s old.registry.rooms mid.rooms (handled (room s.room) ev).0 behind at)

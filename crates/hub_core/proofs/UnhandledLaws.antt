@@ -1,4 +1,4 @@
--- A hub behind an event of a room that it doesn't have: nothing handled.
+-- A hub behind an event of a room that it doesn't have: nothing happens.
 use Rattle.std.proofs.Common.{◌≡◌, ℕ, suc, ◌++◌, Bool, true, false, not, List, [], ◌∷◌, Option, Some, None, filter, map, refl, sym, ap, ap₂, ◌∙◌, cond}
 use Rattle.std.specs.Prelude.{is_some}
 use Rattle.std.specs.List.{find, flat_map}

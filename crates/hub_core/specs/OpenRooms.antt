@@ -17,7 +17,7 @@ use Rattle.hub_core.specs.RoomEntry.{room_in, serial_of}
 
 -- ---- keys
 
--- a byte of a text: a zero is outs from the end by a one behind it
+-- a byte of a text: a zero is told from the end by a one behind it
 abbrev pub byte_key : ℕ → List ℕ
 byte_key b = if b == 0 then b ∷ 1 ∷ [] else b ∷ []
 

@@ -10,7 +10,7 @@ use Rattle.hub_core.specs.declared.entry.RoomEntry.{RoomEntry}
 use Rattle.hub_core.specs.Endings.{ended_by, without_all}
 use Rattle.hub_core.specs.RoomEntry.{IsStepped}
 
--- the room took its step, what it gives is outs, and the connections that it ends are gone
+-- the room took its step, what it gives is told, and the connections that it ends are gone
 pub record Turned {R : Type 0} (room : R → RoomValue) (is_spent : R → Bool) (step : RoomStep) (ev : RoomEvent) (s : RoomEntry R) (old new : Parts R) (before after : List HubOut) : Type 0 where
   pub stepped : IsStepped room is_spent s old.registry.rooms new.registry.rooms (step (room s.room) ev).0
   pub outs : after ≡ before ++ flat_map (told_out old.conns s.id) (step (room s.room) ev).1

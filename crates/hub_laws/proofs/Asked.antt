@@ -10,6 +10,7 @@ use Rattle.std.proofs.lemmas.List.Elements.{Contains-append_cases, All-contains}
 use Rattle.std.proofs.lemmas.List.Sums.{AllPass-from_list_all}
 use Rattle.std.proofs.lemmas.Option.{slice_get-map}
 use Rattle.lists.proofs.SameBytes.{same_bytes}
+use Rattle.lists.proofs.Passing.{found_passes}
 use Rattle.schema_model.specs.Classes.{Schema}
 use Rattle.room_model.specs.declared.definition.RoomDef.{RoomDef}
 use Rattle.room_model.proofs.DefinitionParts.{AreWithin, def_within}
@@ -24,7 +25,7 @@ use Rattle.hub_model.specs.Decisions.{is_open}
 use Rattle.hub_model.specs.HubValues.{HubValue, HubRoom, is_named, room_of, listing_of, listings, knows, is_used}
 use Rattle.hub_model.specs.Dealt.{in_use_text}
 use Rattle.hub_model.specs.HubStep.{Rules, outcome, drawn, criteria_of, room_made, rooms_made, reserved_in, decided}
-use Rattle.hub_laws.proofs.Different.{found_passes, found_in, here_or_behind, named_own, taken_in, passes_any, RoomsDiffer}
+use Rattle.hub_laws.proofs.Different.{found_in, here_or_behind, named_own, taken_in, passes_any, RoomsDiffer}
 use Rattle.hub_laws.proofs.Decided.{JoinsOpen, outcome_opens}
 
 -- ---- places

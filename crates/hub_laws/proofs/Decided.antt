@@ -8,6 +8,7 @@ use Rattle.std.proofs.lemmas.Bool.{and_parts}
 use Rattle.std.proofs.lemmas.Bool.Decides.{nat_tests}
 use Rattle.std.proofs.lemmas.List.Folds.{find_at}
 use Rattle.std.proofs.lemmas.Option.{slice_get_cases}
+use Rattle.lists.proofs.Passing.{found_passes}
 use Rattle.room_model.specs.declared.definition.RoomDef.{RoomDef}
 use Rattle.hub_model.specs.declared.request.AskFault.{AskFault}
 use Rattle.hub_model.specs.declared.request.AskFault.TheVariants.{NoMethod, BadPayload, NoHandler, Memory}
@@ -21,7 +22,6 @@ use Rattle.hub_model.specs.Decisions as decisions
 use Rattle.hub_model.specs.Decisions.{is_open, meets, joined_or, joined_at, kept_at, in_def, room_at, texts_eq, room_is_locked}
 use Rattle.hub_model.specs.HubValues.{HubValue, listings}
 use Rattle.hub_model.specs.HubStep.{outcome, kept_session}
-use Rattle.hub_laws.proofs.Different.{found_passes}
 
 -- the item of a position passes
 pub position_passes : {X : Type 0} (p : X → Bool) (xs : List X) (i : ℕ) → position p xs ≡ Some i → (x : X) × (slice_get xs i ≡ Some x) × (p x ≡ true)

@@ -1,5 +1,5 @@
 -- Lists of which no two items have one name, and lists that rise by a number: what is found, where they are filtered, mapped and joined.
-use Rattle.std.proofs.Common.{◌≡◌, ℕ, suc, ◌<◌, ◌==◌, Bool, true, false, cond, ◌&&◌, ◌||◌, List, [], ◌∷◌, ◌++◌, map, filter, Option, Some, None, is_some, refl, sym, ap, subst, ◌∙◌, append-nil, ◌⊎◌, inl, inr, arith}
+use Rattle.std.proofs.Common.{◌≡◌, ℕ, suc, ◌<◌, ◌==◌, Bool, true, false, cond, ◌&&◌, ◌||◌, List, [], ◌∷◌, ◌++◌, map, filter, Option, Some, None, refl, sym, ap, subst, ◌∙◌, append-nil, ◌⊎◌, inl, inr, arith}
 use Rattle.std.specs.Prelude.{Contains, nat_lt, slice_get}
 use Rattle.std.specs.List.{find, list_any, flat_map}
 use Rattle.std.specs.Option.{option_map, option_map_or, option_and_then, option_or}
@@ -16,14 +16,6 @@ use Rattle.std.proofs.lemmas.Option.{slice_get_within, get_or_from_slice_get}
 
 -- ---- what is found
 
-pub found_passes : {X : Type 0} (p : X → Bool) (xs : List X) (x : X) → find p xs ≡ Some x → p x ≡ true
-found_passes p [] x h = cc
-found_passes p (y ∷ ys) x h =
-    let go : (b : Bool) → p y ≡ b → cond b (Some y) (find p ys) ≡ Some x → p x ≡ true = elim [
-      | true ↦ λ e h. (let same : y ≡ x = cc in subst (λ z. p z ≡ true) same e)
-      | false ↦ λ e h. found_passes p ys x h
-    ] in go (p y) refl h
-
 pub found_in : {X : Type 0} (p : X → Bool) (xs : List X) (x : X) → find p xs ≡ Some x → Contains xs x
 found_in p [] x h = cc
 found_in {X} p (y ∷ ys) x h =
@@ -39,13 +31,6 @@ taken_in xs i x h = (i, slice_get_within xs i x h, get_or_from_slice_get xs i x 
 -- what an item of the list passes, something passes
 pub passes_any : {X : Type 0} (p : X → Bool) (xs : List X) (x : X) → Contains xs x → p x ≡ true → list_any p xs ≡ true
 passes_any p xs x there h = list_any_at p xs there.0 x there.1 (ap p there.2 ∙ h)
-
--- something passes exactly where something is found
-pub found_any : {X : Type 0} (p : X → Bool) (xs : List X) → is_some (find p xs) ≡ list_any p xs
-found_any p [] = refl
-found_any p (x ∷ xs) =
-    let go : (b : Bool) → is_some (cond b (Some x) (find p xs)) ≡ (b || list_any p xs) = elim [ true ↦ refl | false ↦ found_any p xs ] in
-    go (p x)
 
 -- what is found among what items are made into
 pub find-map : {X Y : Type 0} (p : Y → Bool) (f : X → Y) (xs : List X) → find p (map f xs) ≡ option_map f (find (λ x. p (f x)) xs)

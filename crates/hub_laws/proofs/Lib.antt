@@ -1,3 +1,3 @@
-pub mod Different
-pub mod Decided
 pub mod Asked
+pub mod Decided
+pub mod Different

@@ -102,7 +102,8 @@ refused code text = out.Reply 1 (codes "{\"code\":" ++ (codes "42" ++ ((48 + cod
 -- a seat of a room of this name
 abbrev seated : ℕ → ℕ → List ℕ → List ℕ → List ℕ → HubOut
 seated used max name room session =
-    out.Reply 1 (codes "{\"room\":{\"clients\":" ++ ((48 + used) ∷ codes ",\"maxClients\":" ++ ((48 + max) ∷ codes ",\"name\":\"" ++ (name ++ (codes "\",\"processId\":\"proc00001\",\"roomId\":\"" ++ (room ++ (codes "\"},\"sessionId\":\"" ++ (session ++ codes "\"}"))))))))
+    out.Reply 1 (codes "{\"room\":{\"clients\":" ++ ((48 + used) ∷ codes ",\"maxClients\":" ++
+    ((48 + max) ∷ codes ",\"name\":\"" ++ (name ++ (codes "\",\"processId\":\"proc00001\",\"roomId\":\"" ++ (room ++ (codes "\"},\"sessionId\":\"" ++ (session ++ codes "\"}"))))))))
 
 requests_that_are_none :
     gives hub (ask (codes "swap/duel") r1 s1 ∷ event.Ask 1 (codes "/matchmake/join/duel") (codes "[]") r1 s1 ∷ ask (codes "join/none") r1 s1 ∷ ask (codes "join/duel") r1 s1 ∷ ask (codes "joinById/nope") r1 s1 ∷ [])
@@ -217,7 +218,8 @@ a_loss_ends_it = refl
 -- ---- lapses
 
 a_place_comes_free :
-    gives hub (ask (codes "create/duel") r1 s1 ∷ entered 2 r1 s1 t1 ∷ ask (codes "joinById/room00001") r2 s2 ∷ event.At 14999 ∷ ask (codes "joinById/room00001") r2 s3 ∷ event.At 15000 ∷ entered 3 r1 s2 t2 ∷ ask (codes "joinById/room00001") r2 s3 ∷ [])
+    gives hub (ask (codes "create/duel") r1 s1 ∷ entered 2 r1 s1 t1 ∷ ask (codes "joinById/room00001") r2 s2 ∷ event.At 14999 ∷ ask (codes "joinById/room00001")
+    r2 s3 ∷ event.At 15000 ∷ entered 3 r1 s2 t2 ∷ ask (codes "joinById/room00001") r2 s3 ∷ [])
     ≡ (out.Created r1 (codes "duel") ∷ seated 1 2 (codes "duel") r1 s1 ∷ []) ∷ (out.Joined r1 s1 ∷ join 2 t1 ∷ []) ∷ (seated 2 2 (codes "duel") r1 s2 ∷ []) ∷ [] ∷ refused 12 (codes "room room00001 is locked") ∷ []
     ∷ seat_expired 3 ∷ (seated 2 2 (codes "duel") r1 s3 ∷ []) ∷ []
 unfolding digits reading percent_decode

@@ -1,4 +1,4 @@
-mod RequestRows
 mod DecisionRows
-mod OpeningRows
 mod HubRows
+mod OpeningRows
+mod RequestRows

@@ -1,8 +1,8 @@
+pub mod Dealt
+pub mod Decisions
+pub mod HubStep
+pub mod HubValues
+pub mod Kinds
+pub mod Openings
 pub mod Replies
 pub mod Requests
-pub mod Decisions
-pub mod Openings
-pub mod HubValues
-pub mod Dealt
-pub mod HubStep
-pub mod Kinds

@@ -67,7 +67,8 @@ heard r es session placed (inr one) =
     ((step_obeys r.room one.event placed one.may).told session)
 
 -- a session that enters has an opening
-pub entry_opened : (rules : Rules) (h : HubValue) (e : HubEvent) (r : HubRoom) (session : List ℕ) → Placed r.room → Few r.room (deals rules h e r) → list_any (is_entry session) (dealt room_step r (deals rules h e r)).outs ≡ true → OpensIn h e r session
+pub entry_opened : (rules : Rules) (h : HubValue) (e : HubEvent) (r : HubRoom) (session : List ℕ) → Placed r.room → Few r.room (deals rules h e r)
+    → list_any (is_entry session) (dealt room_step r (deals rules h e r)).outs ≡ true → OpensIn h e r session
 entry_opened rules h e r session placed (inl empty) enters = absurd (let no = ap (λ es. list_any (is_entry session) (dealt room_step r es).outs) (sym empty) ∙ enters in cc)
 entry_opened rules h e r session placed (inr one) enters =
     let there : list_any (is_entry session) (room_step r.room one.event).1 ≡ true = ap (λ es. list_any (is_entry session) (dealt room_step r es).outs) (sym one.is) ∙ enters in

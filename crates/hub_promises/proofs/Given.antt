@@ -16,8 +16,8 @@ use Rattle.hub_model.specs.Dealt.{to_conn, told_out, opened_out}
 use Rattle.life_model.specs.Entries.{Sending, Frame, Closing}
 use Rattle.life_model.specs.RoomLives.{given_by}
 use Rattle.life_model.specs.HubLives.{own_output}
-use Rattle.hub_laws.proofs.Different.{found_passes}
 use Rattle.std.proofs.lemmas.List.Elements.{All-head, All-tail}
+use Rattle.lists.proofs.Passing.{found_passes}
 use Rattle.room_model.specs.Room.{RoomValue, after_enter}
 use Rattle.room_promises.proofs.EventCases.{enter_cases}
 use Rattle.hub_model.specs.declared.event.HubEvent.TheVariants.{Frame}
@@ -90,7 +90,8 @@ module _ (own : ℕ → Bool) (conns : List HubConn) (mine session : List ℕ)
               cc
       by_conn (Some c) found =
           let p = and_parts (bytes_eq c.room room) (bytes_eq c.session s) (found_passes (is_conn_for room s) conns c found) in
-          ap (λ os. os ++ []) (gives c.conn ∙ ap (λ b. cond b (x ∷ []) []) (own_is room s c found ∙ (ap (λ n. bytes_eq n mine && bytes_eq c.session session) (same_bytes c.room room p.0) ∙ ap (λ n. bytes_eq room mine && bytes_eq n session) (same_bytes c.session s p.1))))
+          ap (λ os. os ++ []) (gives c.conn ∙ ap (λ b. cond b (x ∷ []) [])
+          (own_is room s c found ∙ (ap (λ n. bytes_eq n mine && bytes_eq c.session session) (same_bytes c.room room p.0) ∙ ap (λ n. bytes_eq room mine && bytes_eq n session) (same_bytes c.session s p.1))))
           ∙ both (bytes_eq room mine) (bytes_eq s session)
 
   -- ---- one output, and all of a room

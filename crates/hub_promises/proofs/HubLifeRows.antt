@@ -1,5 +1,5 @@
 -- A run of two rooms and three clients, worked out by hand: each life's record, what it was given, and what it saw.
-use Rattle.std.specs.Prelude.{◌≡◌, ℕ, ◌+◌, ◌==◌, Bool, true, false, List, [], ◌∷◌, ◌++◌, map, length, pos, Option, Some, None, codes, refl, if◌then◌else◌}
+use Rattle.std.specs.Prelude.{◌≡◌, ℕ, ◌+◌, ◌==◌, Bool, true, false, List, [], ◌∷◌, ◌++◌, map, length, pos, Option, Some, None, Result, codes, refl, if◌then◌else◌}
 use Rattle.std.specs.Fmt.{digits}
 use Rattle.percent_encoding.specs.Percent.{percent_decode}
 use Rattle.schema_model.specs.declared.value.Value.TheVariants as value
@@ -13,21 +13,21 @@ use Rattle.room_model.specs.declared.definition.RoomDef.{RoomDef}
 use Rattle.frame_model.specs.declared.frame.MsgKind.TheVariants as kind
 use Rattle.room_model.specs.declared.event.Act.{Act}
 use Rattle.room_model.specs.declared.event.Act.TheVariants as act
-use Rattle.room_model.specs.Room.{room_step}
 use Rattle.hub_model.specs.declared.event.HubEvent.{HubEvent}
 use Rattle.hub_model.specs.declared.event.HubEvent.TheVariants as event
+use Rattle.hub_model.specs.declared.request.AskFault.{AskFault}
+use Rattle.hub_model.specs.declared.request.Request.{Request}
 use Rattle.hub_model.specs.Requests.{Said, read_request}
 use Rattle.hub_model.specs.HubValues.{HubRoom, new_hub}
-use Rattle.hub_model.specs.HubStep.{Rules}
 use Rattle.hub_model.specs.Kinds.{event_has_kept_kind}
 use Rattle.life_model.specs.Entries.{Entry, Asked, Opened, Framed, Ticked, Dropped, Kicked, Lapsed, Sending, Frame, Closing}
 use Rattle.life_model.specs.Followed.{takes_given, client_given}
 use Rattle.life_model.specs.HubLives.{HubLife, HubRun, hub_run, is_live}
-use Rattle.life_model.specs.HubPromises.{may_come}
+use Rattle.life_model.specs.HubPromises.{rules_of, may_come}
 use Rattle.life_model.specs.Sent.{sent}
 
 -- rooms of two places, whose seats are kept for 20 seconds, and of one
-abbrev duel : RoomDef
+abbrev pub duel : RoomDef
 duel = record { name = codes "duel"; max = 2; seat = 15000; patch = 50; keep = 20000; filter = [] }
 
 abbrev solo : RoomDef
@@ -37,28 +37,28 @@ solo = record { name = codes "solo"; max = 1; seat = 15000; patch = 50; keep = 0
 abbrev said : List ℕ → Option Said
 said body = Some (record { members = []; token = if length body == 9 then Some body else None })
 
-abbrev rules : Rules
-rules = record { step = room_step; read = λ defs target body. read_request defs target (said body) }
+abbrev pub read : List RoomDef → List ℕ → List ℕ → Result Request AskFault
+read defs target body = read_request defs target (said body)
 
-abbrev r1 : List ℕ
+abbrev pub r1 : List ℕ
 r1 = codes "room00001"
 
-abbrev r2 : List ℕ
+abbrev pub r2 : List ℕ
 r2 = codes "room00002"
 
-abbrev s1 : List ℕ
+abbrev pub s1 : List ℕ
 s1 = codes "sess00001"
 
-abbrev s2 : List ℕ
+abbrev pub s2 : List ℕ
 s2 = codes "sess00002"
 
 abbrev s3 : List ℕ
 s3 = codes "sess00003"
 
-abbrev t1 : List ℕ
+abbrev pub t1 : List ℕ
 t1 = codes "tok000001"
 
-abbrev t2 : List ℕ
+abbrev pub t2 : List ℕ
 t2 = codes "tok000002"
 
 abbrev t3 : List ℕ
@@ -82,22 +82,23 @@ abbrev going : List HubEvent
 going = event.At 15000 ∷ event.Act r1 (act.Kick s1 4001) ∷ event.Bad 4 ∷ event.Frame 4 (12 ∷ []) ∷ []
 
 abbrev run : List HubEvent → HubRun
-run es = hub_run rules (new_hub flat (codes "proc00001") (duel ∷ solo ∷ [])) es
+run es = hub_run (rules_of read) (new_hub flat (codes "proc00001") (duel ∷ solo ∷ [])) es
 
 -- ---- what is expected
 
-abbrev seated : ℕ → ℕ → List ℕ → List ℕ → List ℕ → List ℕ
+abbrev pub seated : ℕ → ℕ → List ℕ → List ℕ → List ℕ → List ℕ
 seated used max name room session =
-    codes "{\"room\":{\"clients\":" ++ ((48 + used) ∷ codes ",\"maxClients\":" ++ ((48 + max) ∷ codes ",\"name\":\"" ++ (name ++ (codes "\",\"processId\":\"proc00001\",\"roomId\":\"" ++ (room ++ (codes "\"},\"sessionId\":\"" ++ (session ++ codes "\"}")))))))
+    codes "{\"room\":{\"clients\":" ++ ((48 + used) ∷ codes ",\"maxClients\":" ++
+    ((48 + max) ∷ codes ",\"name\":\"" ++ (name ++ (codes "\",\"processId\":\"proc00001\",\"roomId\":\"" ++ (room ++ (codes "\"},\"sessionId\":\"" ++ (session ++ codes "\"}")))))))
 
-abbrev join : List ℕ → Sending
+abbrev pub join : List ℕ → Sending
 join token = Frame (10 ∷ 9 ∷ (token ++ (6 ∷ codes "schema")))
 
 -- the root alone, and with x = 5
 abbrev root : List RowEntry
 root = record { who = 0; row = Struct 0 [] } ∷ []
 
-abbrev five : List RowEntry
+abbrev pub five : List RowEntry
 five = record { who = 0; row = Struct 0 (record { field = 0; value = value.Whole (pos 5) } ∷ []) } ∷ []
 
 -- what is told of a life
@@ -211,7 +212,8 @@ messages_are_taken = refl
 abbrev comes_with_kind : Act → Bool × Bool
 comes_with_kind a = (may_come (event.Act r1 a), event_has_kept_kind (event.Act r1 a))
 
-other_kinds : map comes_with_kind (act.Send s1 (kind.Name (255 ∷ [])) [] ∷ act.Raw s1 (kind.Name (255 ∷ [])) [] ∷ act.ToAll (kind.Num (pos 2147483648)) [] ∷ act.Send s1 (kind.Num (pos 2147483647)) [] ∷ []) ≡ (true, false) ∷ (true, false) ∷ (true, false) ∷ (true, true) ∷ []
+other_kinds : map comes_with_kind (act.Send s1 (kind.Name (255 ∷ [])) [] ∷ act.Raw s1 (kind.Name (255 ∷ [])) [] ∷ act.ToAll (kind.Num (pos 2147483648)) [] ∷ act.Send s1 (kind.Num (pos 2147483647)) [] ∷ [])
+    ≡ (true, false) ∷ (true, false) ∷ (true, false) ∷ (true, true) ∷ []
 unfolding reading
 other_kinds = refl
 

@@ -75,7 +75,8 @@ module _ (read : List RoomDef → List ℕ → List ℕ → Result Request AskFa
   goes_went : (l : HubLife) → Goes l → Went (lived_on read x.hub e can l)
   goes_went l goes = record {
     end = record { equal = equal (find (is_named l.room) rooms) refl; there = λ lasts. there (room_of next.hub l.room) lasts };
-    on = λ r there lasts is. goes_on_there read x.hub e can l schema (move r there).next.rows r (room_found r l.room there (is ∙ dealt_id (rules_of read).step r (deals (rules_of read) x.hub e r))) (goes.good r there (is ∙ dealt_id (rules_of read).step r (deals (rules_of read) x.hub e r))) lasts;
+    on = λ r there lasts is. goes_on_there read x.hub e can l schema (move r there).next.rows r (room_found r l.room there (is ∙ dealt_id (rules_of read).step r (deals (rules_of read) x.hub e r)))
+        (goes.good r there (is ∙ dealt_id (rules_of read).step r (deals (rules_of read) x.hub e r))) lasts;
   }
     where
       equal : (o : Option HubRoom) → find (is_named l.room) rooms ≡ o → (lived_on read x.hub e can l).outputs ≡ sent schema (lived_on read x.hub e can l).entries

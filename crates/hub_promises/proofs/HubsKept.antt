@@ -29,7 +29,8 @@ use Rattle.room_promises.proofs.Follows.{Followed}
 use Rattle.room_promises.proofs.EventsFollow.{life_follows}
 use Rattle.room_promises.proofs.RoomsKept.{life_sees}
 use Rattle.lists.proofs.SameBytes.{same_bytes}
-use Rattle.hub_laws.proofs.Different.{found_in, found_passes}
+use Rattle.lists.proofs.Passing.{found_passes}
+use Rattle.hub_laws.proofs.Different.{found_in}
 use Rattle.hub_promises.proofs.GoodHubs.{GoodPlace, GoodEnd, GoodHub}
 use Rattle.hub_promises.proofs.HubSteps.{step_good}
 use Rattle.hub_promises.proofs.LivesFollow.{step_follows}
@@ -79,7 +80,8 @@ good_follows schema x g all = record {
 
 -- ---- every run
 
-runs_good : (read : List RoomDef → List ℕ → List ℕ → Result Request AskFault) (schema : Schema) (x : HubRun) (es : List HubEvent) → is_kept schema ≡ true → list_all may_come es ≡ true → GoodHub schema x → GoodHub schema (fold (run_step (rules_of read)) x es)
+runs_good : (read : List RoomDef → List ℕ → List ℕ → Result Request AskFault) (schema : Schema) (x : HubRun) (es : List HubEvent) → is_kept schema ≡ true → list_all may_come es ≡ true
+    → GoodHub schema x → GoodHub schema (fold (run_step (rules_of read)) x es)
 runs_good read schema x [] kept come g = g
 runs_good read schema x (e ∷ es) kept come g =
     let c = and_parts (may_come e) (list_all may_come es) come in
@@ -93,7 +95,7 @@ runs_follow read schema x (e ∷ es) kept come kinds g all =
     let k = and_parts (event_has_kept_kind e) (list_all event_has_kept_kind es) kinds in
     runs_follow read schema (run_step (rules_of read) x e) es kept c.1 k.1 (step_good read schema x e kept c.0 g) (step_follows read schema x e kept c.0 k.0 g all)
 
-new_good : (schema : Schema) (process : List ℕ) (defs : List RoomDef) → list_all is_room_def defs ≡ true → GoodHub schema (record { hub = new_hub schema process defs; lives = [] })
+pub new_good : (schema : Schema) (process : List ℕ) (defs : List RoomDef) → list_all is_room_def defs ≡ true → GoodHub schema (record { hub = new_hub schema process defs; lives = [] })
 new_good schema process defs forms = record {
   schema_is = refl;
   early = omega arith;
@@ -106,7 +108,8 @@ new_good schema process defs forms = record {
 }
 
 -- the hub behind a run, from which it may be made
-run_good : (read : List RoomDef → List ℕ → List ℕ → Result Request AskFault) (schema : Schema) (process : List ℕ) (defs : List RoomDef) (events : List HubEvent) → CanRun schema defs events → GoodHub schema (hub_run (rules_of read) (new_hub schema process defs) events)
+run_good : (read : List RoomDef → List ℕ → List ℕ → Result Request AskFault) (schema : Schema) (process : List ℕ) (defs : List RoomDef) (events : List HubEvent) → CanRun schema defs events
+    → GoodHub schema (hub_run (rules_of read) (new_hub schema process defs) events)
 run_good read schema process defs events can = runs_good read schema (record { hub = new_hub schema process defs; lives = [] }) events can.schema_kept can.come (new_good schema process defs can.forms)
 
 -- of the first events of a run

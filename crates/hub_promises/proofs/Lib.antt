@@ -1,15 +1,16 @@
-pub mod Deals
-pub mod Openings
-pub mod Connected
-pub mod EventsFit
-pub mod Conns
-pub mod Given
-pub mod Owned
-pub mod Outputs
-pub mod Moves
-pub mod GoodHubs
-pub mod LivesMove
-pub mod HubSteps
-pub mod LivesFollow
-pub mod HubsKept
+mod HiddenRows
 mod HubLifeRows
+pub mod Connected
+pub mod Conns
+pub mod Deals
+pub mod EventsFit
+pub mod Given
+pub mod GoodHubs
+pub mod HubSteps
+pub mod HubsKept
+pub mod LivesFollow
+pub mod LivesMove
+pub mod Moves
+pub mod Openings
+pub mod Outputs
+pub mod Owned

@@ -39,7 +39,8 @@ use Rattle.hub_promises.proofs.LivesMove.{asked_of_quiet, lived_on}
 abbrev TickFollows : Schema → RoomValue → List ℕ → Record → Type 0
 TickFollows schema r session entries = Followed schema (entries ++ room_entries r happened.Tick (room_step r happened.Tick).0 session)
 
-one_follows : (schema : Schema) (r : RoomValue) (es : List RoomEvent) (session : List ℕ) (entries : Record) → One r es → list_all tells_kept_kind es ≡ true → TickFollows schema r session entries → Followed schema entries → Followed schema (entries ++ dealt_entries room_step r es session)
+one_follows : (schema : Schema) (r : RoomValue) (es : List RoomEvent) (session : List ℕ) (entries : Record) → One r es → list_all tells_kept_kind es ≡ true → TickFollows schema r session entries
+    → Followed schema entries → Followed schema (entries ++ dealt_entries room_step r es session)
 one_follows schema r es session entries one good ticked f =
     subst (λ es. Followed schema (entries ++ dealt_entries room_step r es session)) (sym one.is)
     (subst (λ es. Followed schema (entries ++ es)) (sym (append-nil (room_entries r one.event (room_step r one.event).0 session))) (by_tick (is_tick one.event) refl))
@@ -55,7 +56,8 @@ one_follows schema r es session entries one good ticked f =
     by_tick true is = ticks one.event is
     by_tick false is = event_follows schema r one.event (room_step r one.event).0 session entries is own one.may f
 
-few_follow : (schema : Schema) (r : RoomValue) (es : List RoomEvent) (session : List ℕ) (entries : Record) → Few r es → list_all tells_kept_kind es ≡ true → TickFollows schema r session entries → Followed schema entries → Followed schema (entries ++ dealt_entries room_step r es session)
+few_follow : (schema : Schema) (r : RoomValue) (es : List RoomEvent) (session : List ℕ) (entries : Record) → Few r es → list_all tells_kept_kind es ≡ true → TickFollows schema r session entries
+    → Followed schema entries → Followed schema (entries ++ dealt_entries room_step r es session)
 few_follow schema r es session entries (inl none) good ticked f = subst (λ es. Followed schema (entries ++ dealt_entries room_step r es session)) (sym none) (followed_same schema entries f)
 few_follow schema r es session entries (inr one) good ticked f = one_follows schema r es session entries one good ticked f
 

@@ -87,7 +87,8 @@ module _ (read : List RoomDef → List ℕ → List ℕ → Result Request AskFa
         ap (by_room (room_dealt (rules_of read) h e l.room)) (outputs_given read h l e ready ∙ ap (λ (o : Option Dealt). option_map_or (λ (d : Dealt). flat_map (given_by l.session) d.outs) o []) (dealt_found (rules_of read) h e l.room))
         ∙ ap (λ o. by_room o (given o)) found
 
-    pub equal_there : (schema : Schema) (rows : List RowEntry) (r : HubRoom) → find (is_named l.room) rooms ≡ Some r → GoodLife schema rows (behind r).room.room.sessions (lived_in l asked r (deals (rules_of read) h e r)) → lived_on.outputs ≡ sent schema lived_on.entries
+    pub equal_there : (schema : Schema) (rows : List RowEntry) (r : HubRoom) → find (is_named l.room) rooms ≡ Some r → GoodLife schema rows (behind r).room.room.sessions (lived_in l asked r (deals (rules_of read) h e r))
+        → lived_on.outputs ≡ sent schema lived_on.entries
     equal_there schema rows r found good = subst (λ (k : HubLife). k.outputs ≡ sent schema k.entries) (sym (lived_there (Some r) found)) good.equal
 
     pub goes_on_there : (schema : Schema) (rows : List RowEntry) (r : HubRoom) → find (is_named l.room) rooms ≡ Some r → GoodLife schema rows (behind r).room.room.sessions (lived_in l asked r (deals (rules_of read) h e r)) → lived_on.lasts ≡ true

@@ -65,7 +65,8 @@ lived_in l asked r es = record {
 }
 
 -- behind none
-lived_none : (schema : Schema) (rows : List RowEntry) (r : HubRoom) (l : HubLife) (asked : List Entry) → l.lasts ≡ true → AreQuiet schema asked → GoodLife schema rows r.room.sessions (in_room l) → GoodLife schema rows r.room.sessions (lived_in l asked r [])
+lived_none : (schema : Schema) (rows : List RowEntry) (r : HubRoom) (l : HubLife) (asked : List Entry) → l.lasts ≡ true → AreQuiet schema asked → GoodLife schema rows r.room.sessions (in_room l)
+    → GoodLife schema rows r.room.sessions (lived_in l asked r [])
 lived_none schema rows r l asked lasts quiet g =
     subst (λ (os : List Sending). GoodLife schema rows r.room.sessions (record { session = l.session; lasts = is_in r.room l.session; entries = l.entries ++ (asked ++ []); outputs = os; view = l.view })) (sym (append-nil l.outputs))
     (record { equal = more.equal; goes_on = λ h. on (more.goes_on lasts) })

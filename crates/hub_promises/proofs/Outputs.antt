@@ -7,6 +7,7 @@ use Rattle.std.specs.Str.{bytes_eq}
 use Rattle.std.proofs.lemmas.Grind.{flat_map-append}
 use Rattle.std.proofs.lemmas.List.Elements.{All-map, All-weaker, All-contains_itself}
 use Rattle.lists.proofs.SameBytes.{same_bytes}
+use Rattle.lists.proofs.Passing.{found_any}
 use Rattle.room_model.specs.declared.definition.RoomDef.{RoomDef}
 use Rattle.room_model.specs.declared.event.RoomEvent.{RoomEvent}
 use Rattle.room_model.specs.declared.event.RoomEvent.TheVariants as happened
@@ -28,7 +29,7 @@ use Rattle.life_model.specs.Entries.{Sending}
 use Rattle.life_model.specs.HubPromises.{rules_of}
 use Rattle.life_model.specs.RoomLives.{given_by}
 use Rattle.life_model.specs.HubLives.{HubLife, own_output, outputs_of}
-use Rattle.hub_laws.proofs.Different.{found_any, named_own, joined_named}
+use Rattle.hub_laws.proofs.Different.{named_own, joined_named}
 use Rattle.hub_promises.proofs.Deals.{rooms_for, dealt_to, dealt_id, dealt_of, dealt_found, dealt_differ, Ready}
 use Rattle.hub_promises.proofs.Connected.{heard}
 use Rattle.hub_promises.proofs.Conns.{new_conns, entry_at, any_enters, all_conns}
@@ -198,7 +199,8 @@ module _ (read : List RoomDef → List ℕ → List ℕ → Result Request AskFa
       flat_map-append (own_output owns) first (middle ++ (last ++ disposed))
       ∙ (ap (λ os. os ++ flat_map (own_output owns) (middle ++ (last ++ disposed))) (first_given e ready is)
       ∙ (flat_map-append (own_output owns) middle (last ++ disposed)
-      ∙ (ap (λ os. flat_map (own_output owns) middle ++ os) (flat_map-append (own_output owns) last disposed ∙ (ap (λ os. os ++ flat_map (own_output owns) disposed) (last_given owns e ds) ∙ nothing_given owns (λ (r : HubRoom). out.Disposed r.id) (filter (λ r. not (is_needed r)) (map (λ (d : Dealt). d.room) ds)) (λ r. refl)))
+      ∙ (ap (λ os. flat_map (own_output owns) middle ++ os) (flat_map-append (own_output owns) last disposed
+      ∙ (ap (λ os. os ++ flat_map (own_output owns) disposed) (last_given owns e ds) ∙ nothing_given owns (λ (r : HubRoom). out.Disposed r.id) (filter (λ r. not (is_needed r)) (map (λ (d : Dealt). d.room) ds)) (λ r. refl)))
       ∙ (append-nil (flat_map (own_output owns) middle) ∙ rooms_given e ready))))
     where
       ds : List Dealt

@@ -3,8 +3,7 @@ use Rattle.std.proofs.Common.{◌≡◌, ℕ, Bool, true, false, not, cond, ◌&
 use Rattle.std.specs.List.{find, list_any}
 use Rattle.std.specs.Option.{option_map, option_map_or}
 use Rattle.lists.proofs.RisingLaws.{find-Contains}
-use Rattle.state_laws.proofs.Passing.{list_any-filter}
-use Rattle.state_laws.proofs.Tests.{list_any_filtered}
+use Rattle.lists.proofs.Passing.{list_any-filter, list_any_filtered}
 use Rattle.room_model.specs.declared.definition.RoomDef.{RoomDef}
 use Rattle.room_laws.specs.StepLaws.{is_entry, is_end}
 use Rattle.hub_model.specs.declared.event.HubEvent.{HubEvent}

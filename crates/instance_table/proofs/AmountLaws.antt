@@ -25,6 +25,7 @@ use Rattle.command_laws.proofs.NewRows.{next_free}
 use Rattle.command_laws.proofs.RowSums.{new_row_text, put_row_text}
 use Rattle.command_laws.proofs.SoundRows.{sound_rises, sound_row}
 use Rattle.collection_ops.specs.Bodies.{map_number, key_item}
+use Rattle.collection_ops.proofs.MapLaws.{number_from}
 use Rattle.instance_table.specs.Amounts.{is_text_full, text_of_place}
 
 -- the sum over one item more
@@ -57,11 +58,6 @@ sum_same w size n xs h is none = omega (arith, is, ap (λ o. option_map_or w o 0
 -- that sum is within a limit that the sum over all keeps
 pub sum_bounded : {X : Type 0} (w : X → ℕ) (size n more limit : ℕ) (xs : List X) → n < length xs → size ≡ sum_by w (take n xs) → more ≡ option_map_or w (slice_get xs n) 0 → sum_by w xs ≤ limit → size + more ≤ limit
 sum_bounded w size n more limit xs h is next few = omega (arith, sum_grown w size n more xs h is next, sum_within w (n + 1) xs, few)
-
--- the item of a key has a number from the least on
-number_from : (low : ℕ) (items : List MapItem) (key : List ℕ) (i : MapItem) → RisesFrom map_number low items → key_item items key ≡ Some i → low ≤ i.number
-number_from low [] key i r h = cc
-number_from low (x ∷ items) key i r h = grind (arith, nat_tests, r.0, number_from (suc x.number) items key i r.1)
 
 -- the item of a key is found by its number
 key_found : (low : ℕ) (items : List MapItem) (key : List ℕ) (i : MapItem) → RisesFrom map_number low items → key_item items key ≡ Some i → find map_number i.number items ≡ Some i
@@ -163,7 +159,8 @@ text_full_is schema s c holder r text kept names stands field item is few = ap (
     nothing_put : value_put c ≡ None → is_text_full c r text ≡ false
     nothing_put h = ap (λ o. is_some o && not (is_present c (Some r)) && nat_lt text_limit (text_of_place c r text)) h
 
-    by_value : (o : Option Value) → value_put c ≡ o → is_present c (Some r) ≡ false → row_text after + text_in_value (replaced c r) + key_taken c r ≡ row_text r + text_in_value (value_put c) + key_added c r → nat_lt text_limit now ≡ is_text_full c r text
+    by_value : (o : Option Value) → value_put c ≡ o → is_present c (Some r) ≡ false → row_text after + text_in_value (replaced c r) + key_taken c r ≡ row_text r + text_in_value (value_put c) + key_added c r
+        → nat_lt text_limit now ≡ is_text_full c r text
     by_value None e fresh total =
         let no_key = no_key_added c r e in
         let no_text = ap text_in_value e in

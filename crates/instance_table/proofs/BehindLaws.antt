@@ -35,7 +35,7 @@ through_rise schema tag low [] r = tt
 through_rise schema tag low (e ∷ rows) r = (r.0, through_rise schema tag (suc e.who) rows r.1)
 
 -- the row of a number
-row_at_through : (schema : Schema) (tag : ℤ) (rows : List RowEntry) (n : ℕ)
+pub row_at_through : (schema : Schema) (tag : ℤ) (rows : List RowEntry) (n : ℕ)
     → row_at (rows_through schema tag rows) n ≡ option_map (row_through schema tag) (row_at rows n)
 row_at_through schema tag [] n = refl
 row_at_through schema tag (e ∷ rows) n =
@@ -81,7 +81,7 @@ places_found es n o h = ap (λ r. option_map_or row_places r 0) (row_there es n 
 -- ---- the fields of an instance
 
 -- what the fields hold that lead on
-fields_through : (schema : Schema) (tag : ℤ) (class : ℕ) (fields : List FieldValue)
+pub fields_through : (schema : Schema) (tag : ℤ) (class : ℕ) (fields : List FieldValue)
     → flat_map (held_through schema tag class) fields ≡ held_in (row_through schema tag (Struct class fields))
 fields_through schema tag class [] = refl
 fields_through schema tag class (f ∷ fields) =

@@ -12,10 +12,11 @@ use Rattle.state_model.specs.Rows as state
 use Rattle.state_model.specs.State.{State, ItemCount, next_item}
 use Rattle.state_model.specs.Commands.{counts_items, edited, gives_number, value_put, with_change}
 use Rattle.state_model.specs.Rows.{held_in}
+use Rattle.state_laws.proofs.Numbers.{put_rises}
 use Rattle.command_laws.specs.Accounts.{is_clear, one_if, replaced}
 use Rattle.command_laws.proofs.EditedRows.{counts_given, edited_kind}
 use Rattle.command_laws.proofs.ItemCounts.{who_of, counts_with, counts_with_rise, find_count}
-use Rattle.command_laws.proofs.LinkedRows.{row_put, put_rises}
+use Rattle.command_laws.proofs.LinkedRows.{row_put}
 use Rattle.command_laws.proofs.Sweeping.{same_rows}
 use Rattle.instance_table.specs.declared.node.Node.{Node}
 use Rattle.instance_table.specs.declared.body.Body.{Body}
@@ -26,8 +27,8 @@ use Rattle.instance_table.specs.Changes.{edited_node, hold_link, let_go_link, le
 use Rattle.instance_table.specs.Table.{state_in}
 use Rattle.instance_table.proofs.LetGoLaws.{body_at, body_same, body_let_go, length_let_go, rises_let_go}
 use Rattle.instance_table.proofs.ChangeLaws.{body_hold}
-use Rattle.instance_table.proofs.NodeLaws.{rises_at}
-use Rattle.instance_table.proofs.WaitingLaws.{node_at_edited, length-at_node}
+use Rattle.instance_table.proofs.NodeLaws.{rises_at, length_at}
+use Rattle.instance_table.proofs.WaitingLaws.{node_at_edited}
 use Rattle.instance_table.proofs.StateLaws.{rows_rise}
 use Rattle.instance_table.proofs.NodeStates.{row_by_body, body_count, count_found, counts_rise, row_again, next_found}
 
@@ -95,19 +96,19 @@ changed_rise c h b es r = by_test (is_clear c)
 
 pub length_hold : (link : Option ℕ) (h : ℕ) (es : List (ℕ × Node)) → length (hold_link link h es) ≡ length es
 length_hold None h es = refl
-length_hold (Some k) h es = length-at_node k (held_more h) es
+length_hold (Some k) h es = length_at k (held_more h) es
 
 pub length_link_let_go : (link : Option ℕ) (h : ℕ) (es : List (ℕ × Node)) → length (let_go_link link h es) ≡ length es
 length_link_let_go None h es = refl
-length_link_let_go (Some k) h es = length-at_node k (held_less h) es
+length_link_let_go (Some k) h es = length_at k (held_less h) es
 
 pub changed_length : (c : Command) (h : ℕ) (b : Body) (es : List (ℕ × Node)) → length (changed c h b es) ≡ length es
 changed_length c h b es = by_test (is_clear c)
   where
     by_test : (t : Bool) → length (cond t (row_cleared c h b es) (place_changed c h b es)) ≡ length es
-    by_test true = length-at_node h (edited_node c) (all_let_go h b es) ∙ length_let_go (held_in (row_of b)) h es
+    by_test true = length_at h (edited_node c) (all_let_go h b es) ∙ length_let_go (held_in (row_of b)) h es
     by_test false =
-        length_link_let_go (link_in (replaced c (row_of b))) h (at_node h (edited_node c) (put_held c h es)) ∙ (length-at_node h (edited_node c) (put_held c h es) ∙ length_hold (link_in (value_put c)) h es)
+        length_link_let_go (link_in (replaced c (row_of b))) h (at_node h (edited_node c) (put_held c h es)) ∙ (length_at h (edited_node c) (put_held c h es) ∙ length_hold (link_in (value_put c)) h es)
 
 -- ---- the state
 

@@ -11,7 +11,7 @@ use Rattle.state_model.specs.declared.command.Command.TheVariants.{Make, MakeFor
 use Rattle.state_model.specs.Rows as state
 use Rattle.state_model.specs.Rows.{held_in, place_count, put_row, row_at, text_bytes_of, values_in}
 use Rattle.state_model.specs.State.{State, places_limit, text_limit}
-use Rattle.state_model.specs.Commands.{adds_place, answer_of, do_command, edited, holder_of, is_no_field, made_row, makes_row, number_made, refusal_of, row_for, state_after, value_put, with_change, with_new}
+use Rattle.state_model.specs.Commands.{adds_place, answer_of, do_command, edited, holder_of, is_no_field, made_row, number_made, refusal_of, row_for, state_after, value_put, with_change, with_new}
 use Rattle.command_laws.specs.Accounts.{IsFit, is_clear, one_if, replaced, row_text}
 use Rattle.state_model.specs.Worded.{is_worded_command}
 use Rattle.command_laws.proofs.Accepted.{IsAccepted, accepted}
@@ -32,28 +32,14 @@ use Rattle.instance_table.proofs.LetGoLaws.{body_at}
 use Rattle.instance_table.proofs.NodeStates.{nodes_rise, row_by_body}
 use Rattle.instance_table.proofs.ChangedStates.{changed_bodies, changed_length, changed_rise, changed_rows, changed_state}
 use Rattle.instance_table.proofs.ChangedHolders.{clear_exact, exact_held, held_exact, place_exact, row_counts}
+use Rattle.instance_table.proofs.AmountLaws.{makes_none}
 
 -- ---- what an accepted command does
-
--- a command that changes a row makes none
-changes_row : (c : Command) (h : ℕ) → holder_of c ≡ Some h → makes_row c ≡ false
-changes_row (Make class) h e = cc
-changes_row (MakeFor home) h e = cc
-changes_row (Put r f v) h e = refl
-changes_row (Unset r f) h e = refl
-changes_row (PutKey r k v) h e = refl
-changes_row (DelKey r k) h e = refl
-changes_row (Push r v) h e = refl
-changes_row (SetAt r at v) h e = refl
-changes_row (DelAt r at) h e = refl
-changes_row (Add r v) h e = refl
-changes_row (Del r v) h e = refl
-changes_row (Clear r) h e = refl
 
 -- the state after it
 after_change : (schema : Schema) (s : State) (c : Command) (h : ℕ) (row : Row) → holder_of c ≡ Some h → row_at s.rows h ≡ Some row → state_after schema s c ≡ with_change s c (Some h) (Some row)
 after_change schema s c h row names stands =
-    let none = changes_row c h names in
+    let none = makes_none c h names in
     let found : row_for s.rows c ≡ Some row = ap (option_and_then (row_at s.rows)) names ∙ stands in
     ap (λ b. cond b (with_new s (made_row schema c)) (with_change s c (holder_of c) (row_for s.rows c))) none ∙ ap₂ (with_change s c) names found
 
@@ -62,7 +48,7 @@ answers_change : (schema : Schema) (s : State) (c : Command) (h : ℕ) (row : Ro
     → do_command schema s c ≡ Ok (with_change s c (Some h) (Some row), None)
 answers_change schema s c h row free names stands =
     ap (λ f. answer_of f (state_after schema s c) (number_made s c)) free
-    ∙ ap₂ (λ (t : State) (m : Option ℕ). Ok (t, m)) (after_change schema s c h row names stands) (ap (λ b. cond b (Some (suc s.given)) None) (changes_row c h names))
+    ∙ ap₂ (λ (t : State) (m : Option ℕ). Ok (t, m)) (after_change schema s c h row names stands) (ap (λ b. cond b (Some (suc s.given)) None) (makes_none c h names))
 
 -- ---- places and text
 
@@ -118,7 +104,8 @@ places_within schema rows c row fit left few = by_test (is_clear c) (is_some (va
     adds : adds_place c (Some row) ≡ (is_some (value_put c) && not (is_some (replaced c row)))
     adds = adds_place_is schema rows c row fit
 
-    by_test : (t p : Bool) → is_some (value_put c) ≡ p → (r : Bool) → is_some (replaced c row) ≡ r → cond t (place_count rows - length (values_in row)) (place_count rows + one_if (is_some (value_put c)) - one_if (is_some (replaced c row))) ≤ places_limit
+    by_test : (t p : Bool) → is_some (value_put c) ≡ p → (r : Bool) → is_some (replaced c row) ≡ r
+        → cond t (place_count rows - length (values_in row)) (place_count rows + one_if (is_some (value_put c)) - one_if (is_some (replaced c row))) ≤ places_limit
     by_test true p e r f = omega arith
     by_test false true e true f = omega (arith, ap one_if e, ap one_if f)
     by_test false true e false f =

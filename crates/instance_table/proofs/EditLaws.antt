@@ -4,6 +4,7 @@ use Rattle.std.specs.List.{find, list_any, remove, slice_get}
 use Rattle.std.specs.Option.{option_map, is_some}
 use Rattle.std.specs.Str.{bytes_eq}
 use Rattle.std.proofs.lemmas.Bool.Decides.{nat_tests}
+use Rattle.lists.proofs.Passing.{found_any}
 use Rattle.schema_model.specs.declared.value.Value.{Value}
 use Rattle.state_model.specs.declared.row.MapItem.{MapItem}
 use Rattle.state_model.specs.declared.row.SetItem.{SetItem}
@@ -17,11 +18,6 @@ use Rattle.collection_ops.specs.declared.fault.ItemFault.{ItemFault}
 use Rattle.collection_ops.specs.declared.fault.ItemFault.TheVariants.{NoItem, Present, NumbersSpent, Memory}
 use Rattle.collection_ops.specs.Bodies.{MapState, SetState, map_number, set_number, key_item, value_item, set_add, if_there, Exactly, Gives, map_put, map_put_over, map_remove, array_put_at, array_remove_at, set_remove}
 use Rattle.command_laws.specs.Accounts.{one_if}
-
--- a search and a test
-found_any : {X : Type 0} (p : X → Bool) (xs : List X) → is_some (find p xs) ≡ list_any p xs
-found_any p [] = refl
-found_any p (x ∷ xs) = grind (arith, nat_tests, found_any p xs)
 
 -- the same where only a part of what is found is told
 pub told_any : {X Y : Type 0} (f : X → Y) (p : X → Bool) (xs : List X) → is_some (option_map f (find p xs)) ≡ list_any p xs

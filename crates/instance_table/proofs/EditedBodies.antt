@@ -1,5 +1,5 @@
 -- A body is its row and what it has given.
-use Rattle.std.proofs.Common.{◌≡◌, ◌+◌, Result, Ok, Err, IfSome, OnOk, refl, sym, ap₂, ◌∙◌}
+use Rattle.std.proofs.Common.{◌≡◌, ◌+◌, IfSome, refl, sym, ap₂, ◌∙◌}
 use Rattle.std.specs.Option.{option_map}
 use Rattle.state_model.specs.declared.command.Command.{Command}
 use Rattle.state_model.specs.Commands.{edited}
@@ -23,8 +23,3 @@ next_given (Struct class fields) = tt
 next_given (Map home items) = refl
 next_given (Array home values) = tt
 next_given (Set home items) = refl
-
--- what two facts of an Ok answer give together
-pub on_ok_both : {T E P Q R : Type 0} (r : Result T E) → OnOk r P → OnOk r Q → (P → Q → R) → OnOk r R
-on_ok_both (Ok x) p q f = f p q
-on_ok_both (Err e) p q f = tt

@@ -25,6 +25,7 @@ use Rattle.instance_table.proofs.ExactLaws.{HoldersAre, links_let_go, none_count
 use Rattle.instance_table.proofs.StateLaws.{rows_same, rows_removed}
 use Rattle.instance_table.proofs.WaitingLaws.{node_at_edited, waits_edited}
 use Rattle.std.proofs.lemmas.Bool.{or_parts}
+use Rattle.lists.proofs.Numbers.{same_number}
 use Rattle.instance_table.proofs.ChangedHolders.{exact_held, row_counts}
 use Rattle.instance_table.proofs.LetGoLaws.{body_at, body_let_go, rows_let_go}
 
@@ -181,10 +182,6 @@ pub record IsLoose (k : ℕ) (es : List (ℕ × Node)) (n : Node) : Type 0 where
   pub at : node_at es k ≡ Some n
   pub other : (k == 0) ≡ false
   pub none : (length n.holders == 0) ≡ true
-
--- a number is itself
-same_number : (k : ℕ) → (k == k) ≡ true
-same_number k = grind (arith, nat_tests)
 
 -- the node of a number that rests
 pub at_rested : (k : ℕ) (es : List (ℕ × Node)) → node_at (at_node k rested es) k ≡ option_map rested (node_at es k)

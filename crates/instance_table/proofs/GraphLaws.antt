@@ -9,14 +9,15 @@ use Rattle.lists.proofs.RisingLaws.{length-remove}
 use Rattle.instance_table.specs.declared.node.Node.{Node}
 use Rattle.instance_table.specs.Nodes.{number_of, node_at, at_node, wakes, woken, rested}
 use Rattle.instance_table.specs.Graph.{AreListed, waits_at}
-use Rattle.instance_table.proofs.WaitingLaws.{length-at_node, waiting_less, listed_same, listed_more, listed_less, listed_push, listed_without}
+use Rattle.instance_table.proofs.WaitingLaws.{waiting_less, listed_same, listed_more, listed_less, listed_push, listed_without}
+use Rattle.instance_table.proofs.NodeLaws.{length_at}
 
 -- those that wait are listed, and there is room for all nodes
 abbrev pub HasRoom : List (ℕ × Node) → List ℕ → ℕ → Type 0
 HasRoom es loose room = AreListed es loose × (length es ≤ room)
 
 fits_at : (k : ℕ) (f : Node → Node) (es : List (ℕ × Node)) (room : ℕ) → length es ≤ room → length (at_node k f es) ≤ room
-fits_at k f es room h = omega (arith, length-at_node k f es)
+fits_at k f es room h = omega (arith, length_at k f es)
 
 -- an edit that leaves each node waiting or not, or none for out of memory
 pub room_same : (b : Bool) (k : ℕ) (f : Node → Node) (es new : List (ℕ × Node)) (loose : List ℕ) (room : ℕ) → ((n : Node) → (f n).waits ≡ n.waits) → new ≡ cond b (at_node k f es) es

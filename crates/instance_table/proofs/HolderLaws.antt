@@ -6,6 +6,7 @@ use Rattle.std.specs.List.Sorted.{IsNonDecreasingBy, IsPartitionPoint}
 use Rattle.std.proofs.lemmas.Bool.{ltb-false}
 use Rattle.std.proofs.lemmas.Bool.Decides.{nat_tests}
 use Rattle.std.proofs.lemmas.List.Sums.{prefix_len_is}
+use Rattle.lists.proofs.Numbers.{one_up}
 use Rattle.state_model.specs.Reached.{is_among}
 use Rattle.instance_table.specs.Holders.{AscendsFrom, is_holder, with_holder, without_one}
 
@@ -15,9 +16,6 @@ low_end h ns = prefix_len (λ n. ltb n h) ns
 
 abbrev pub high_end : ℕ → List ℕ → ℕ
 high_end h ns = prefix_len (λ n. leb n h) ns
-
-one_up : (n : ℕ) → 1 + n ≡ suc n
-one_up n = omega arith
 
 -- a lower bound
 pub AscendsFrom-lower : (low high : ℕ) (ns : List ℕ) → low ≤ high → AscendsFrom high ns → AscendsFrom low ns

@@ -55,7 +55,7 @@ none_held schema es given places text t who at =
     same_counts 0 0 [] (holders_of (rows_in es) who) tt (ascends_holders who 0 (rows_in es) rise) (λ h. sym (count_holders who h 0 (rows_in es) rise ∙ none_holds schema (rows_in es) t.kept.sound who gone h))
 
 -- values hold no more numbers than they are
-held_few : (vs : List Value) → length (flat_map held_by vs) ≤ length vs
+pub held_few : (vs : List Value) → length (flat_map held_by vs) ≤ length vs
 held_few [] = omega arith
 held_few (value.Whole z ∷ vs) = omega (arith, held_few vs)
 held_few (value.Str t ∷ vs) = omega (arith, held_few vs)

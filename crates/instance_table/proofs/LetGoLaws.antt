@@ -15,8 +15,8 @@ use Rattle.instance_table.specs.Bodies.{row_of}
 use Rattle.instance_table.specs.Nodes.{number_of, node_at, at_node, rows_in, counts_in, held_not}
 use Rattle.instance_table.specs.Changes.{values_at, link_in, let_go_each}
 use Rattle.instance_table.proofs.LinkLaws.{held_first, held_next, links_all}
-use Rattle.instance_table.proofs.WaitingLaws.{length-at_node, node_at_edited}
-use Rattle.instance_table.proofs.NodeLaws.{rises_at}
+use Rattle.instance_table.proofs.WaitingLaws.{node_at_edited}
+use Rattle.instance_table.proofs.NodeLaws.{rises_at, length_at}
 use Rattle.instance_table.proofs.StateLaws.{rows_same, counts_same, held_found}
 
 -- ---- bodies stay
@@ -96,7 +96,7 @@ let_go_end h n start es whole so =
 -- letting go leaves how many nodes there are, and that they rise
 pub length_let_go : (ns : List ℕ) (h : ℕ) (es : List (ℕ × Node)) → length (let_go_each ns h es) ≡ length es
 length_let_go [] h es = refl
-length_let_go (n ∷ ns) h es = length_let_go ns h (at_node n (held_not h) es) ∙ length-at_node n (held_not h) es
+length_let_go (n ∷ ns) h es = length_let_go ns h (at_node n (held_not h) es) ∙ length_at n (held_not h) es
 
 pub rises_let_go : (ns : List ℕ) (h : ℕ) (es : List (ℕ × Node)) → RisesFrom number_of 0 es → RisesFrom number_of 0 (let_go_each ns h es)
 rises_let_go [] h es r = r

@@ -11,7 +11,7 @@ use Rattle.instance_table.specs.declared.node.Node.{Node}
 use Rattle.instance_table.specs.Nodes.{at_node, at_slot, node_at, number_of}
 
 -- an edit of a number below all changes nothing
-at_none : (k low : ℕ) (f : Node → Node) (es : List (ℕ × Node)) → RisesFrom number_of low es → k < low → at_node k f es ≡ es
+pub at_none : (k low : ℕ) (f : Node → Node) (es : List (ℕ × Node)) → RisesFrom number_of low es → k < low → at_node k f es ≡ es
 at_none k low f [] r h = refl
 at_none k low f (e ∷ es) r h = grind (arith, nat_tests, r.0, at_none k (suc (e.0)) f es r.1)
 

@@ -230,7 +230,8 @@ pub record IsFilteredRow (schema : Schema) (es : List (ℕ × Node)) (holder : �
   pub there : row_at (rows_in es) holder ≡ Some (row.Array home values)
   pub filtered : is_filtered schema home ≡ true
 
-pub filtered_row : (schema : Schema) (es : List (ℕ × Node)) (holder : ℕ) (home : Home) (values : List Value) (b : Body) → are_sound schema (rows_in es) ≡ true → IsExact es → row_at (rows_in es) holder ≡ Some (row_of b) → b ≡ body.Array home values → is_filtered schema home ≡ true
+pub filtered_row : (schema : Schema) (es : List (ℕ × Node)) (holder : ℕ) (home : Home) (values : List Value) (b : Body) → are_sound schema (rows_in es) ≡ true → IsExact es
+    → row_at (rows_in es) holder ≡ Some (row_of b) → b ≡ body.Array home values → is_filtered schema home ≡ true
     → IsFilteredRow schema es holder home values
 filtered_row schema es holder home values b sound exact there is filtered = record { sound = sound; exact = exact; there = there ∙ ap (λ x. Some (row_of x)) is; filtered = filtered }
 
@@ -243,14 +244,16 @@ held_among : (schema : Schema) (es : List (ℕ × Node)) (holder who : ℕ) (hom
 held_among schema es holder who home values h = held_where schema es holder who (row.Array home values) h.sound h.exact h.there ∙ sym (link_among who values)
 
 -- a pushed instance
-pub pushed_link : (schema : Schema) (es : List (ℕ × Node)) (holder who r : ℕ) (home : Home) (values : List Value) (c : Command) (v : Value) (b : Body) → IsFilteredRow schema es holder home values → c ≡ command.Push r v → v ≡ value.Link who → b ≡ body.Array home values
+pub pushed_link : (schema : Schema) (es : List (ℕ × Node)) (holder who r : ℕ) (home : Home) (values : List Value) (c : Command) (v : Value) (b : Body) → IsFilteredRow schema es holder home values
+    → c ≡ command.Push r v → v ≡ value.Link who → b ≡ body.Array home values
     → holds_it es holder who ≡ is_duplicate schema c (Some (row_of b))
 pushed_link schema es holder who r home values c v b h is link own =
     let p = list_any (same_value (value.Link who)) values in
     held_among schema es holder who home values h ∙ (sym (ap (λ f. f && p) h.filtered) ∙ sym (ap₂ (λ d x. is_duplicate schema d (Some (row_of x))) (is ∙ ap (command.Push r) link) own))
 
 -- a pushed scalar
-pub pushed_scalar : (schema : Schema) (es : List (ℕ × Node)) (holder r : ℕ) (home : Home) (values : List Value) (c : Command) (v : Value) (b : Body) → IsFilteredRow schema es holder home values → c ≡ command.Push r v → is_link v ≡ false → b ≡ body.Array home values
+pub pushed_scalar : (schema : Schema) (es : List (ℕ × Node)) (holder r : ℕ) (home : Home) (values : List Value) (c : Command) (v : Value) (b : Body) → IsFilteredRow schema es holder home values
+    → c ≡ command.Push r v → is_link v ≡ false → b ≡ body.Array home values
     → false ≡ is_duplicate schema c (Some (row_of b))
 pushed_scalar schema es holder r home values c v b h is scalar own =
     let two = filtered_values schema (rows_in es) holder home values h.sound h.there h.filtered in
@@ -266,7 +269,8 @@ link_at n (Some (value.Truth b)) = refl
 link_at n (Some (value.Link m)) = grind (arith, nat_tests)
 
 -- an instance that is set where it doesn't stand
-pub set_link : (schema : Schema) (es : List (ℕ × Node)) (holder who r at : ℕ) (home : Home) (values : List Value) (c : Command) (v : Value) (b : Body) (found : Option ℕ) (o : Option Value) → IsFilteredRow schema es holder home values → c ≡ command.SetAt r at v → v ≡ value.Link who → b ≡ body.Array home values
+pub set_link : (schema : Schema) (es : List (ℕ × Node)) (holder who r at : ℕ) (home : Home) (values : List Value) (c : Command) (v : Value) (b : Body) (found : Option ℕ) (o : Option Value)
+    → IsFilteredRow schema es holder home values → c ≡ command.SetAt r at v → v ≡ value.Link who → b ≡ body.Array home values
     → found ≡ link_in o → o ≡ slice_get values at → (not (option_eq (λ a b. a == b) found (Some who)) && holds_it es holder who) ≡ is_duplicate schema c (Some (row_of b))
 set_link schema es holder who r at home values c v b found o h is link own told get =
     let p = same_value (value.Link who) in
@@ -277,7 +281,8 @@ set_link schema es holder who r at home values c v b found o h is link own told 
     ∙ (sym (ap (λ f. f && list_any p (remove values at)) h.filtered) ∙ sym (ap₂ (λ d x. is_duplicate schema d (Some (row_of x))) (is ∙ ap (command.SetAt r at) link) own)))
 
 -- a scalar that is set
-pub set_scalar : (schema : Schema) (es : List (ℕ × Node)) (holder r at : ℕ) (home : Home) (values : List Value) (c : Command) (v : Value) (b : Body) → IsFilteredRow schema es holder home values → c ≡ command.SetAt r at v → is_link v ≡ false → b ≡ body.Array home values
+pub set_scalar : (schema : Schema) (es : List (ℕ × Node)) (holder r at : ℕ) (home : Home) (values : List Value) (c : Command) (v : Value) (b : Body) → IsFilteredRow schema es holder home values
+    → c ≡ command.SetAt r at v → is_link v ≡ false → b ≡ body.Array home values
     → false ≡ is_duplicate schema c (Some (row_of b))
 set_scalar schema es holder r at home values c v b h is scalar own =
     let two = filtered_values schema (rows_in es) holder home values h.sound h.there h.filtered in
@@ -344,7 +349,8 @@ changed_first schema s c r h =
     ∙ skipped (is_no_field schema c (Some r)) fault.NoField rest field)
 
 -- the same, as the calls tell it
-pub reaches : (schema : Schema) (es : List (ℕ × Node)) (given : ℕ) (c : Command) (o : Option Row) (r : Row) → false ≡ is_no_ref (rows_in es) c → false ≡ is_no_field schema c o → o ≡ row_for (rows_in es) c → o ≡ Some r → Reaches schema (state_in es given) c r
+pub reaches : (schema : Schema) (es : List (ℕ × Node)) (given : ℕ) (c : Command) (o : Option Row) (r : Row) → false ≡ is_no_ref (rows_in es) c → false ≡ is_no_field schema c o
+    → o ≡ row_for (rows_in es) c → o ≡ Some r → Reaches schema (state_in es given) c r
 reaches schema es given c o r named field told is = record { named = sym named; field = sym (field ∙ ap (is_no_field schema c) told); over = sym told ∙ is }
 
 -- a cause in what the command puts
@@ -353,7 +359,8 @@ value_refused schema s c r f h first =
     first_among (value_causes schema s.rows c r) (link_causes schema s.rows c r ++ last_causes schema s c r) f first ∙ sym (changed_first schema s c r h)
 
 -- a cause in the instance that it links to
-pub link_refused : (schema : Schema) (s : State) (c : Command) (r : Row) (f : TableFault) → Reaches schema s c r → None ≡ first_cause (value_causes schema s.rows c r) → Some f ≡ first_cause (link_causes schema s.rows c r) → Some f ≡ refusal_of schema s c
+pub link_refused : (schema : Schema) (s : State) (c : Command) (r : Row) (f : TableFault) → Reaches schema s c r → None ≡ first_cause (value_causes schema s.rows c r)
+    → Some f ≡ first_cause (link_causes schema s.rows c r) → Some f ≡ refusal_of schema s c
 link_refused schema s c r f h none first =
     first_among (link_causes schema s.rows c r) (last_causes schema s c r) f first
     ∙ (sym (first_behind (value_causes schema s.rows c r) (link_causes schema s.rows c r ++ last_causes schema s c r) none) ∙ sym (changed_first schema s c r h))
@@ -364,7 +371,8 @@ limit_order a b c d e f g =
     cond a (Some fault.InstancesFull) (cond b (Some fault.PlacesFull) (cond c (Some fault.TextFull) (cond d (Some fault.TextTooLong) (cond e (Some fault.RefsSpent) (cond f (Some fault.NumbersSpent) (cond g (Some fault.Present) None))))))
 
 -- a cause in the limits
-pub limit_refused : (schema : Schema) (es : List (ℕ × Node)) (given places text holder : ℕ) (c : Command) (b : Body) → IsTable schema es given places text → Reaches schema (state_in es given) c (row_of b) → Some holder ≡ holder_of c → Some b ≡ option_map (λ (n : Node). n.body) (option_and_then (node_at es) (holder_of c))
+pub limit_refused : (schema : Schema) (es : List (ℕ × Node)) (given places text holder : ℕ) (c : Command) (b : Body) → IsTable schema es given places text → Reaches schema (state_in es given) c (row_of b)
+    → Some holder ≡ holder_of c → Some b ≡ option_map (λ (n : Node). n.body) (option_and_then (node_at es) (holder_of c))
     → None ≡ first_cause (value_causes schema (rows_in es) c (row_of b)) → None ≡ first_cause (link_causes schema (rows_in es) c (row_of b))
     → first_cause (limit_causes c (row_of b) places text (next_in b)) ≡ refusal_of schema (state_in es given) c
 limit_refused schema es given places text holder c b table h told found no_value no_link = sym (changed_first schema s c r h ∙ (first_behind values (links ++ last) no_value ∙ (first_behind links last no_link ∙ limits)))
@@ -400,7 +408,8 @@ limit_refused schema es given places text holder c b table h told found no_value
     field = ap (is_no_field schema c) (sym h.over) ∙ h.field
 
     item_there : is_no_item c (Some r) ≡ false
-    item_there = first_fails (is_no_item c (Some r)) fault.NoItem ((is_wrong_type schema s.rows (value_put c) (expected_for schema c (Some r)), fault.WrongType) ∷ (is_past_range (value_put c) (expected_for schema c (Some r)), fault.OutOfRange) ∷ []) no_value
+    item_there = first_fails (is_no_item c (Some r)) fault.NoItem
+        ((is_wrong_type schema s.rows (value_put c) (expected_for schema c (Some r)), fault.WrongType) ∷ (is_past_range (value_put c) (expected_for schema c (Some r)), fault.OutOfRange) ∷ []) no_value
 
     full : nat_lt text_limit (text_bytes_of (state_after schema s c).rows) ≡ is_text_full c r text
     full = text_full_is schema s c holder r text table.kept names stands field item_there table.texts table.text_few
@@ -419,8 +428,11 @@ limit_refused schema es given places text holder c b table h told found no_value
 
     limits : first_cause last ≡ first_cause (limit_causes c r places text (next_in b))
     limits =
-        ap (λ x. limit_order x (adds_place c (Some r) && nat_le places_limit (place_count s.rows)) (nat_lt text_limit (text_bytes_of (state_after schema s c).rows)) (is_long_text (value_put c) || is_long_key c) (makes_row c && nat_le last_number given) (gives_number c (Some r) && nat_lt last_number (option_map_or (next_item s) (holder_of c) 0)) (is_present c (Some r))) (none_made (nat_le rows_limit (length s.rows)))
-        ∙ (ap₂ (λ x y. limit_order false x y (is_long_text (value_put c) || is_long_key c) (makes_row c && nat_le last_number given) (gives_number c (Some r) && nat_lt last_number (option_map_or (next_item s) (holder_of c) 0)) (is_present c (Some r))) places_are full
+        ap (λ x. limit_order x (adds_place c (Some r) && nat_le places_limit (place_count s.rows)) (nat_lt text_limit (text_bytes_of (state_after schema s c).rows))
+        (is_long_text (value_put c) || is_long_key c) (makes_row c && nat_le last_number given) (gives_number c (Some r) && nat_lt last_number (option_map_or (next_item s) (holder_of c) 0)) (is_present c (Some r)))
+        (none_made (nat_le rows_limit (length s.rows)))
+        ∙ (ap₂ (λ x y. limit_order false x y (is_long_text (value_put c) || is_long_key c) (makes_row c && nat_le last_number given)
+        (gives_number c (Some r) && nat_lt last_number (option_map_or (next_item s) (holder_of c) 0)) (is_present c (Some r))) places_are full
         ∙ ap₂ (λ x y. limit_order false (adds_place c (Some r) && nat_le places_limit places) (is_text_full c r text) (is_long_text (value_put c) || is_long_key c) x y (is_present c (Some r))) (none_made (nat_le last_number given)) numbers_are)
 
 -- ---- a command that makes a row

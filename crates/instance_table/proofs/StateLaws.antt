@@ -14,7 +14,7 @@ use Rattle.plain_rows.specs.Links.{held_at}
 use Rattle.instance_table.specs.declared.node.Node.{Node}
 use Rattle.instance_table.specs.Bodies.{row_of, given_of}
 use Rattle.instance_table.specs.Nodes.{number_of, node_at, at_node, rows_in, counts_in, entry_row, entry_counts}
-use Rattle.instance_table.proofs.WaitingLaws.{edit_above}
+use Rattle.instance_table.proofs.NodeLaws.{at_none}
 
 -- ---- rows
 
@@ -94,7 +94,7 @@ rows_put k low f (e ∷ es) n r h = go (e.0 == k) refl h (rows_put k (suc (e.0))
         let same : e.1 ≡ n = cc in
         let is : e.0 ≡ k = grind (arith, nat_tests) in
         let place : ltb k e.0 ≡ false = grind (arith, nat_tests) in
-        let rest = edit_above k (suc (e.0)) f es r.1 (omega (arith, is)) in
+        let rest = at_none k (suc (e.0)) f es r.1 (omega (arith, is)) in
         ap₂ (λ w m. let x : RowEntry = record { who = w; row = row_of (f m).body } in x ∷ rows_in (at_node k f es)) is same
         ∙ (ap (λ l. new ∷ rows_in l) rest ∙ sym (ap (λ c. cond c (new ∷ entry_row e ∷ rows_in es) (new ∷ rows_in es)) place))
     go false b g more =

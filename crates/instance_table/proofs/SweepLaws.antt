@@ -26,9 +26,9 @@ use Rattle.instance_table.specs.Nodes.{number_of, node_at, at_node, rows_in, cou
 use Rattle.instance_table.specs.Table.{IsExact}
 use Rattle.instance_table.proofs.HolderCounts.{count_first}
 use Rattle.state_laws.proofs.Counts.{count_both}
-use Rattle.instance_table.proofs.NodeLaws.{rises_at}
+use Rattle.instance_table.proofs.NodeLaws.{rises_at, length_at}
 use Rattle.instance_table.proofs.StateLaws.{row_found, rows_rise, rows_same, counts_same}
-use Rattle.instance_table.proofs.WaitingLaws.{length-at_node, node_at_edited}
+use Rattle.instance_table.proofs.WaitingLaws.{node_at_edited}
 use Rattle.std.proofs.lemmas.List.{length-map}
 use Rattle.instance_table.proofs.ChangeLaws.{tell_of, told_of}
 use Rattle.instance_table.proofs.LetGoLaws.{counts_let_go, rises_let_go}
@@ -144,7 +144,7 @@ swept_rested who old es new places text gone s e tight = subst (λ l. IsSwept ol
   texts = s.texts ∙ sym (ap state.text_bytes_of same);
   shorter = omega (arith, s.shorter, ap state.text_bytes_of same);
   numbers = λ k. ap (λ rows. count_of k gone + one_if (state.is_live rows k)) same ∙ s.numbers k;
-  all = omega (arith, s.all, length-at_node who rested es);
+  all = omega (arith, s.all, length_at who rested es);
 })
   where
     same : rows_in (at_node who rested es) ≡ rows_in es
@@ -171,7 +171,7 @@ length_without k es n rise at =
 
 -- as many nodes as before one rested
 length_mid : (who : ℕ) (es mid : List (ℕ × Node)) → mid ≡ at_node who rested es → length mid ≡ length es
-length_mid who es mid e = ap (λ (l : List (ℕ × Node)). length l) e ∙ length-at_node who rested es
+length_mid who es mid e = ap (λ (l : List (ℕ × Node)). length l) e ∙ length_at who rested es
 
 -- the node that goes next: it rests, no row holds it, and it isn't the root
 pub record IsNext (who : ℕ) (es mid : List (ℕ × Node)) (n : Node) : Type 0 where

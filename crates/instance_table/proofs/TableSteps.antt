@@ -1,7 +1,8 @@
 -- What a table knows before a command that changes a row, and what it keeps where memory was wanting.
-use Rattle.std.proofs.Common.{◌≡◌, inl, inr, ℕ, ◌≤◌, true, false, ◌&&◌, List, length, Option, Some, None, Result, Err, nat_lt, refl, sym, ap, ap₂, ◌∙◌, subst, arith}
+use Rattle.std.proofs.Common.{◌≡◌, inl, inr, ℕ, ◌≤◌, Bool, true, false, ◌&&◌, List, [], ◌∷◌, length, Option, Some, None, Result, Err, nat_lt, refl, sym, ap, ap₂, ◌∙◌, subst, arith}
+use Rattle.std.specs.List.{list_any}
 use Rattle.std.specs.Option.{is_some, option_map, option_map_or, option_and_then}
-use Rattle.std.proofs.lemmas.Bool.{true≢false}
+use Rattle.std.proofs.lemmas.Bool.{or_parts, true≢false}
 use Rattle.std.proofs.lemmas.Bool.Decides.{nat_tests}
 use Rattle.lists.specs.Rising.{RisesFrom}
 use Rattle.schema_model.specs.Classes.{Schema}
@@ -12,7 +13,7 @@ use Rattle.state_model.specs.Rows as state
 use Rattle.state_model.specs.Rows.{is_live, place_count, row_at, text_bytes_of, values_in}
 use Rattle.state_model.specs.Spelled.{are_spelled}
 use Rattle.state_model.specs.State.{State, next_item, last_number, text_limit}
-use Rattle.state_model.specs.Commands.{gives_number, holder_of, refusal_of, row_for, value_put}
+use Rattle.state_model.specs.Commands.{causes_over, first_cause, gives_number, holder_of, refusal_of, row_for, value_put}
 use Rattle.state_laws.proofs.Numbers.{live_row}
 use Rattle.command_laws.specs.Accounts.{row_text}
 use Rattle.command_laws.specs.Kept.{IsKept}
@@ -127,6 +128,21 @@ undone_table schema c h es fs given places text t undone = elim undone [
 ]
 
 -- ---- a command that is refused
+
+-- out of memory
+abbrev is_memory : TableFault → Bool
+is_memory fault.Memory = true
+is_memory f = false
+
+-- the first cause is one of these
+cause_among : (cs : List (Bool × TableFault)) (f : TableFault) → list_any (λ (c : Bool × TableFault). is_memory c.1) cs ≡ false → first_cause cs ≡ Some f → is_memory f ≡ false
+cause_among [] f none is = cc
+cause_among ((true, g) ∷ cs) f none is = let same : g ≡ f = cc in ap is_memory (sym same) ∙ (or_parts (is_memory g) (list_any (λ (c : Bool × TableFault). is_memory c.1) cs) none).0
+cause_among ((false, g) ∷ cs) f none is = cause_among cs f (or_parts (is_memory g) (list_any (λ (c : Bool × TableFault). is_memory c.1) cs) none).1 is
+
+-- no cause is out of memory
+pub never_memory : (schema : Schema) (s : State) (c : Command) → refusal_of schema s c ≡ Some fault.Memory → ⊥
+never_memory schema s c h = true≢false (cause_among (causes_over schema s c (row_for s.rows c)) fault.Memory refl h)
 
 -- a refusal that the definition tells is an answer, where the table is as before
 pub refused_answers : (does : Result (State × Option ℕ) TableFault) (old new : TableState) (f : TableFault) → does ≡ Err f → new ≡ old → Answers does old new (Err f)

@@ -11,16 +11,13 @@ use Rattle.state_model.specs.Reached.{is_among}
 use Rattle.instance_table.specs.declared.node.Node.{Node}
 use Rattle.instance_table.specs.Nodes.{number_of, node_at, at_node}
 use Rattle.instance_table.specs.Graph.{numbers_differ, waits_at, waiting_count, AreListed}
+use Rattle.instance_table.proofs.NodeLaws.{at_none}
 
 -- ---- a node after an edit
 
 pub node_at_edited : (k j : ℕ) (f : Node → Node) (es : List (ℕ × Node)) → node_at (at_node k f es) j ≡ option_map (λ n. cond (j == k) (f n) n) (node_at es j)
 node_at_edited k j f [] = refl
 node_at_edited k j f (e ∷ es) = grind (arith, nat_tests, node_at_edited k j f es)
-
-pub length-at_node : (k : ℕ) (f : Node → Node) (es : List (ℕ × Node)) → length (at_node k f es) ≡ length es
-length-at_node k f [] = refl
-length-at_node k f (e ∷ es) = ap suc (length-at_node k f es)
 
 -- which node waits after an edit
 pub waits_edited : (k j : ℕ) (f : Node → Node) (es : List (ℕ × Node))
@@ -51,11 +48,6 @@ pub waiting_less : (k : ℕ) (es : List (ℕ × Node)) (n : Node) → node_at es
 waiting_less k [] n h w = cc
 waiting_less k (e ∷ es) n h w = grind (arith, nat_tests, count_first e es, waiting_within es, waiting_less k es n)
 
--- entries above a number are left by an edit of it
-pub edit_above : (k low : ℕ) (f : Node → Node) (es : List (ℕ × Node)) → RisesFrom number_of low es → k < low → at_node k f es ≡ es
-edit_above k low f [] r h = refl
-edit_above k low f (e ∷ es) r h = grind (arith, nat_tests, r.0, edit_above k (suc (e.0)) f es r.1)
-
 -- an edit changes the count as it changes the node
 pub waiting_edited : (k low : ℕ) (f : Node → Node) (es : List (ℕ × Node)) (n : Node) → node_at es k ≡ Some n → RisesFrom number_of low es
     → waiting_count (at_node k f es) + cond n.waits 1 0 ≡ waiting_count es + cond (f n).waits 1 0
@@ -66,7 +58,7 @@ waiting_edited k low f (e ∷ es) n h r =
     = elim [
       | true ↦ λ b h.
           let same : e.1 ≡ n = cc in
-          let rest : at_node k f es ≡ es = edit_above k (suc (e.0)) f es r.1 (grind (arith, nat_tests)) in
+          let rest : at_node k f es ≡ es = at_none k (suc (e.0)) f es r.1 (grind (arith, nat_tests)) in
           let old = ap (λ m. one_if m.waits) same in
           let new = ap (λ m. one_if (f m).waits) same in
           omega (arith, count_first (e.0, f e.1) (at_node k f es), ap waiting_count rest, count_first e es, old, new)

@@ -1,9 +1,10 @@
 -- Walks back along holders: what they get to is what reaches their start.
-use Rattle.std.proofs.Common.{◌≡◌, ◌∙◌, ℕ, suc, Bool, true, false, not, ◌==◌, List, [], ◌∷◌, ◌++◌, ◌||◌, map, Option, Some, None, is_some, refl, sym, ap, subst, arith}
+use Rattle.std.proofs.Common.{◌≡◌, ◌∙◌, ℕ, suc, true, false, not, ◌==◌, List, [], ◌∷◌, ◌++◌, ◌||◌, map, Option, Some, None, is_some, refl, sym, ap, subst, arith}
 use Rattle.std.specs.List.{flat_map}
 use Rattle.std.specs.Option.{option_map, option_map_or}
 use Rattle.std.proofs.lemmas.Bool.Decides.{nat_tests}
 use Rattle.lists.specs.Rising.{RisesFrom}
+use Rattle.lists.proofs.Tests.{both_ways}
 use Rattle.schema_model.specs.Classes.{Schema}
 use Rattle.schema_model.specs.declared.value.Value.TheVariants as value
 use Rattle.state_model.specs.declared.row.Row.{Row}
@@ -14,7 +15,6 @@ use Rattle.state_model.specs.Sound.{are_sound}
 use Rattle.state_model.specs.Values.{held_by}
 use Rattle.state_laws.proofs.Counts.{count_among}
 use Rattle.state_laws.proofs.ReachedLaws.{reached_closed, reached_further, reached_least, reached_start}
-use Rattle.state_laws.proofs.Tests.{both_ways}
 use Rattle.command_laws.proofs.SoundRows.{sound_links}
 use Rattle.plain_rows.specs.Links.{held_at}
 use Rattle.instance_table.specs.declared.node.Node.{Node}
@@ -27,7 +27,7 @@ use Rattle.instance_table.specs.Table.{IsExact}
 use Rattle.instance_table.specs.Ways.{back_row, rows_along}
 use Rattle.instance_table.proofs.RefusalLaws.{dead_where}
 use Rattle.instance_table.proofs.StateLaws.{held_found, rows_rise}
-use Rattle.plain_rows.proofs.Walks.{Walked, row_held, walk_end, walk_on, walk_start}
+use Rattle.plain_rows.proofs.Walks.{Walked, row_held, walk_end, walk_on, walk_start, held_row}
 use Rattle.state_laws.proofs.Numbers.{among_with_number}
 use Rattle.state_model.specs.Reached.{with_number}
 
@@ -68,14 +68,6 @@ along_rise Holders es r = back_rise 0 es r
 
 -- ---- a turn
 
-pub from_not : (b c : Bool) → b ≡ not c → b ≡ true → c ≡ false
-from_not b true e t = cc
-from_not b false e t = refl
-
-pub from_is : (b c : Bool) → b ≡ not c → b ≡ false → c ≡ true
-from_is b true e f = refl
-from_is b false e f = cc
-
 -- another number more leaves one unseen
 pub still_unseen : (to who : ℕ) (seen : List ℕ) → is_among to seen ≡ false → (who == to) ≡ false → is_among to (with_number seen who) ≡ false
 still_unseen to who seen h d = grind (arith, nat_tests, among_with_number seen who to)
@@ -95,17 +87,9 @@ last_reached rows from to who seen waiting rest w e s =
 -- ---- both ends
 
 -- who holds a number is told by its row and by its node
-holder_among : (es : List (ℕ × Node)) (who h : ℕ) (n : Node) → IsExact es → node_at es who ≡ Some n → is_among h n.holders ≡ is_among who (held_at (rows_in es) h)
+pub holder_among : (es : List (ℕ × Node)) (who h : ℕ) (n : Node) → IsExact es → node_at es who ≡ Some n → is_among h n.holders ≡ is_among who (held_at (rows_in es) h)
 holder_among es who h n exact at =
     count_among h n.holders ∙ (ap (λ c. not (c == 0)) (exact.counts who h n at) ∙ sym (count_among who (held_at (rows_in es) h)))
-
-row_holding : (rows : List RowEntry) (n b : ℕ) → is_among b (held_at rows n) ≡ true → (r : Row) × (row_at rows n ≡ Some r) × (is_among b (held_in r) ≡ true)
-row_holding rows n b h =
-    let go : (o : Option Row) → row_at rows n ≡ o → (r : Row) × (row_at rows n ≡ Some r) × (is_among b (held_in r) ≡ true) = elim [
-      | Some r ↦ λ s. (r, s, sym (ap (λ o. is_among b (option_map_or held_in o [])) s) ∙ h)
-      | None ↦ λ s. let none : is_among b (held_at rows n) ≡ false = ap (λ o. is_among b (option_map_or held_in o [])) s in cc
-    ] in
-    go (row_at rows n) refl
 
 -- what holds is held back
 back_step : (es : List (ℕ × Node)) (to a b : ℕ) (r : Row) → RisesFrom nodes.number_of 0 es → IsExact es → is_among to (reached (rows_in es) a) ≡ true
@@ -114,7 +98,7 @@ back_step es to a b r rise exact keep at held =
     let rows_rising = rows_rise 0 es rise in
     let among : is_among b (option_map_or (λ (x : Node). x.holders) (node_at es a) []) ≡ true = ap (is_among b) (sym (back_held es a) ∙ row_held (map back_row es) a r at) ∙ held in
     let there = of_node (node_at es a) refl among in
-    let holds = row_holding (rows_in es) b a there in
+    let holds = held_row (rows_in es) b a there in
     reached_further (rows_in es) b a to rows_rising (reached_closed (rows_in es) b b a holds.0 rows_rising (reached_start (rows_in es) b) holds.1 holds.2) keep
   where
     of_node : (o : Option Node) → node_at es a ≡ o → is_among b (option_map_or (λ (x : Node). x.holders) o []) ≡ true → is_among a (held_at (rows_in es) b) ≡ true
@@ -130,7 +114,7 @@ on_step schema es from a b r rise sound exact keep at held =
     let holds : is_among b (held_at (rows_in es) a) ≡ true = ap (is_among b) (row_held (rows_in es) a r at) ∙ held in
     let node = live_node es b (sound_links schema (rows_in es) sound a b r at held) in
     let among : is_among a (held_at back b) ≡ true = ap (is_among a) (back_held es b ∙ ap (λ o. option_map_or (λ (x : Node). x.holders) o []) node.1) ∙ (holder_among es b a node.0 exact node.1 ∙ holds) in
-    let row = row_holding back b a among in
+    let row = held_row back b a among in
     reached_further back b a from rising (reached_closed back b b a row.0 rising (reached_start back b) row.1 row.2) keep
   where
     live_node : (fs : List (ℕ × Node)) (k : ℕ) → is_live (rows_in fs) k ≡ true → (x : Node) × (node_at fs k ≡ Some x)

@@ -1,5 +1,5 @@
 -- Walks from row to row along links, or back along holders.
-use Rattle.std.specs.Prelude.{◌≡◌, ℕ, ◌+◌, ◌<◌, Bool, false, not, List, length, map, Option, Some, None}
+use Rattle.std.specs.Prelude.{◌≡◌, ℕ, ◌+◌, ◌<◌, ◌≤◌, Bool, false, not, List, [], ◌∷◌, ◌++◌, filter, length, map, Option, Some, None, if◌then◌else◌}
 use Rattle.schema_model.specs.declared.value.Value.TheVariants as value
 use Rattle.state_model.specs.declared.row.Row.TheVariants as row
 use Rattle.state_model.specs.declared.row.RowEntry.{RowEntry}
@@ -28,3 +28,14 @@ left_of rows seen waiting = length waiting + links_where (λ k. not (is_among k 
 abbrev pub IsTurned : List RowEntry → ℕ → ℕ → ℕ → List ℕ → List ℕ → Option Bool → Type 0
 IsTurned rows start end left seen waiting None = Walked rows start seen waiting × (is_among end seen ≡ false) × (left_of rows seen waiting < left)
 IsTurned rows start end left seen waiting (Some found) = found ≡ is_among end (reached rows start)
+
+-- ---- a walk in one list
+
+-- the numbers, and behind them those of others that aren't among them, each once
+abbrev pub with_each : List ℕ → List ℕ → List ℕ
+with_each ns [] = ns
+with_each ns (m ∷ ms) = with_each (if is_among m ns then ns else ns ++ m ∷ []) ms
+
+-- the numbers are no more than the nodes that have them
+abbrev pub AreFew : List (ℕ × Node) → List ℕ → Type 0
+AreFew es ns = length ns + length (filter (λ e. not (is_among e.0 ns)) es) ≤ length es

@@ -7,7 +7,6 @@ ghost use Rattle.instance_table.specs.Bodies.{IsBehind, row_of, value_in};
 
 use collection_ops::{ArrayBody, MapBody, SetBody};
 use schema_model::{Home, Key, Memory, TypeNum, Value};
-use state_model::row::copy_field_values;
 use state_model::{FieldValues, Row};
 use std::alloc::Global;
 
@@ -88,10 +87,7 @@ impl Body {
         ensures { IfOk result (λ r. r ≡ row_of self.now) }
     {
         match self {
-            Body::Struct(class, fields) => Ok(Row::Struct(
-                *class,
-                copy_field_values(alloc, fields)?,
-            )),
+            Body::Struct(class, fields) => Ok(Row::Struct(*class, fields.copy(alloc)?)),
             Body::Map(home, items) => Ok(Row::Map(*home, items.copy_items(alloc)?)),
             Body::Array(home, values) => Ok(Row::Array(*home, values.copy_items(alloc)?)),
             Body::Set(home, items) => Ok(Row::Set(*home, items.copy_items(alloc)?)),

@@ -1,5 +1,5 @@
 //! What a command comes to: the first cause for which it is refused, in their order, or what it does.
-ghost use Rattle.std.specs.Prelude.{◌≡◌, ◌≤◌, ◌&&◌, not, IfOk, Some, false, is_ok, nat_lt, option_and_then, option_copied, true};
+ghost use Rattle.std.specs.Prelude.{◌≡◌, ◌≤◌, ◌&&◌, not, Some, false, length, nat_lt, option_and_then, option_copied, true};
 ghost use Rattle.std.specs.Option.{option_map, option_map_or};
 ghost use Rattle.schema_model.specs.Classes.{Schema as Classes};
 ghost use Rattle.state_model.specs.Reached.{is_among};
@@ -10,7 +10,7 @@ ghost use Rattle.state_model.specs.Commands.{first_cause, gives_number, holder_o
 ghost use Rattle.command_laws.specs.Accounts.{replaced, row_text};
 ghost use Rattle.instance_table.specs.declared.plan.Verdict.TheVariants.{Makes, Refused};
 ghost use Rattle.instance_table.specs.Amounts.{is_text_full, limit_causes, link_causes, make_causes, text_after, value_causes};
-ghost use Rattle.instance_table.specs.Bodies.{next_in, row_of, takes_out};
+ghost use Rattle.instance_table.specs.Bodies.{next_in, row_of};
 ghost use Rattle.instance_table.specs.Changes.{link_in, value_named};
 ghost use Rattle.instance_table.specs.Found.{IsJudged, IsPlanned, is_absent, item_number};
 ghost use Rattle.instance_table.specs.Nodes.{node_at, rows_in};
@@ -25,10 +25,11 @@ use crate::links::link_of;
 use crate::nodes::Nodes;
 use crate::parts::{holder_of, value_put};
 use crate::plan::{Located, Plan, Verdict};
+use crate::roomy_list::RoomyList;
 use crate::totals::Totals;
 use crate::typed::type_cause;
 use crate::walk::reaches;
-use schema_model::{LAST_NUMBER, Memory, RefNum, Schema, Value};
+use schema_model::{LAST_NUMBER, RefNum, Schema, Value};
 use state_model::{Command, Expected, TableFault, is_filtered};
 use std::alloc::Global;
 
@@ -95,15 +96,16 @@ fn value_cause(
 }
 
 // Whether the instance that a command links to reaches the row that it changes.
-fn is_cycle(alloc: Global, nodes: &Nodes, command: &Command) -> Result<bool, Memory>
+fn is_cycle(alloc: Global, spare: &mut RoomyList, nodes: &Nodes, command: &Command) -> bool
     requires sound { (schema : Classes) × (are_sound schema (rows_in nodes.now) ≡ true) }
     requires exact { IsExact nodes.now }
-    ensures value { IfOk result (λ found. found ≡ is_cycle (rows_in nodes.now) (holder_of command.now) (value_put command.now)) }
-    ensures sure { takes_out command.now ≡ true → is_ok result ≡ true }
+    requires room { length nodes.now ≤ spare.old.room }
+    ensures value { result ≡ is_cycle (rows_in nodes.now) (holder_of command.now) (value_put command.now) }
+    ensures kept { spare.old.room ≤ spare.new.room }
 {
     match (holder_of(command), link_of(value_put(command))) {
-        (Some(holder), Some(link)) => reaches(alloc, nodes, link, holder),
-        _ => Ok(false),
+        (Some(holder), Some(link)) => reaches(alloc, spare, nodes, link, holder),
+        _ => false,
     }
 }
 
@@ -148,25 +150,27 @@ fn is_duplicate(
 // The first cause in the instance that the command links to.
 fn link_cause(
     alloc: Global,
+    spare: &mut RoomyList,
     schema: &Schema,
     nodes: &Nodes,
     holder: RefNum,
     command: &Command,
     body: &Body,
-) -> Result<Option<TableFault>, Memory>
+) -> Option<TableFault>
     requires sound { are_sound schema.now (rows_in nodes.now) ≡ true }
     requires exact { IsExact nodes.now }
     requires there { row_at (rows_in nodes.now) holder ≡ Some (row_of body.now) }
-    ensures value { IfOk result (λ f. f ≡ first_cause (link_causes schema.now (rows_in nodes.now) command.now (row_of body.now))) }
-    ensures sure { takes_out command.now ≡ true → is_ok result ≡ true }
+    requires room { length nodes.now ≤ spare.old.room }
+    ensures value { result ≡ first_cause (link_causes schema.now (rows_in nodes.now) command.now (row_of body.now)) }
+    ensures kept { spare.old.room ≤ spare.new.room }
 {
-    if is_cycle(alloc, nodes, command)? {
-        return Ok(Some(TableFault::Cycle));
+    if is_cycle(alloc, spare, nodes, command) {
+        return Some(TableFault::Cycle);
     }
     if is_duplicate(schema, nodes, holder, command, body) {
-        return Ok(Some(TableFault::Duplicate));
+        return Some(TableFault::Duplicate);
     }
-    Ok(None)
+    None
 }
 
 // Whether there would be too many bytes of text.
@@ -272,41 +276,44 @@ fn plan(place: usize, totals: Totals, command: &Command, body: &Body, found: &Fo
     }
 }
 
-/// What a command comes to: the first cause for which it is refused, or what it does.
+/// What a command comes to: the first cause for which it is refused, or what it does. The spare list has room for all
+/// rows, so that this is known whatever memory does.
 pub fn judge(
     alloc: Global,
+    spare: &mut RoomyList,
     schema: &Schema,
     graph: &Graph,
     given: u32,
     totals: Totals,
     command: &Command,
-) -> Result<Verdict, Memory>
-    requires { IsTable schema.now graph.now.nodes given totals.places totals.text }
-    ensures value { IfOk result (λ v. IsJudged schema.now graph.now.nodes given totals.places totals.text command.now v) }
-    ensures sure { takes_out command.now ≡ true → is_ok result ≡ true }
+) -> Verdict
+    requires table { IsTable schema.now graph.now.nodes given totals.places totals.text }
+    requires room { length graph.now.nodes ≤ spare.old.room }
+    ensures value { IsJudged schema.now graph.now.nodes given totals.places totals.text command.now result }
+    ensures kept { spare.old.room ≤ spare.new.room }
 {
     let nodes = graph.nodes();
     let place = place_for(nodes, command);
     let body = body_for(nodes, place, command);
     if is_no_ref(nodes, command, body) {
-        return Ok(Verdict::Refused(TableFault::NoRef));
+        return Verdict::Refused(TableFault::NoRef);
     }
     let expected = cause::expected_for(schema, command, body);
     if cause::is_no_field(schema, command, body, &expected) {
-        return Ok(Verdict::Refused(TableFault::NoField));
+        return Verdict::Refused(TableFault::NoField);
     }
     let (Some(holder), Some(body)) = (holder_of(command), body) else {
-        return Ok(judge_make(nodes.len(), given));
+        return judge_make(nodes.len(), given);
     };
     let found = look_up(command, body);
     if let Some(fault) = value_cause(schema, nodes, command, body, &found, &expected) {
-        return Ok(Verdict::Refused(fault));
+        return Verdict::Refused(fault);
     }
-    if let Some(fault) = link_cause(alloc, schema, nodes, holder, command, body)? {
-        return Ok(Verdict::Refused(fault));
+    if let Some(fault) = link_cause(alloc, spare, schema, nodes, holder, command, body) {
+        return Verdict::Refused(fault);
     }
     if let Some(fault) = limit_cause(totals, command, body, &found) {
-        return Ok(Verdict::Refused(fault));
+        return Verdict::Refused(fault);
     }
-    Ok(Verdict::Changes(holder, plan(place, totals, command, body, &found)))
+    Verdict::Changes(holder, plan(place, totals, command, body, &found))
 }

@@ -1,6 +1,7 @@
 //! Numbers in a list that has room for more.
-ghost use Rattle.std.specs.Prelude.{◌≡◌, ◌≤◌, ◌<◌, [], ◌∷◌, ◌++◌, length, IsPermutation, None, OnOk};
+ghost use Rattle.std.specs.Prelude.{◌≡◌, ◌≤◌, ◌<◌, [], ◌∷◌, ◌++◌, length, IsPermutation, None, OnOk, slice_get};
 ghost use Rattle.std.specs.Option.{option_to_list};
+ghost use Rattle.state_model.specs.Reached.{is_among};
 ghost use Rattle.instance_table.specs.Holders.{AscendsFrom};
 
 use lists::reserve_total;
@@ -37,6 +38,20 @@ impl RoomyList {
         ensures { result.now ≡ self.now.numbers }
     {
         self.numbers.as_slice()
+    }
+
+    /// The n-th number.
+    pub fn get(&self, n: usize) -> Option<RefNum>
+        ensures { result ≡ slice_get self.now.numbers n }
+    {
+        self.numbers.get(n).copied()
+    }
+
+    /// Whether it has a number. It looks at one after another.
+    pub fn has(&self, number: RefNum) -> bool
+        ensures { result ≡ is_among number self.now.numbers }
+    {
+        self.numbers.contains(&number)
     }
 
     /// Makes room for so many numbers in all.

@@ -1,8 +1,9 @@
 //! The shared graph of a room.
-ghost use Rattle.std.specs.Prelude.{◌≡◌, ◌≤◌, ◌+◌, Err, IfOk, None, Ok, OnErr, OnOk, Some, false, is_ok, length, option_copied, slice_get, true};
+ghost use Rattle.std.specs.Prelude.{◌≡◌, ◌≤◌, ◌+◌, Err, IfOk, None, Ok, OnErr, OnOk, Some, false, is_ok, length, option_copied, slice_get, true, if◌then◌else◌};
 ghost use Rattle.std.specs.Option.{option_map};
 ghost use Rattle.state_model.specs.declared.command.TableFault.TheVariants as fault;
 ghost use Rattle.state_model.specs.Commands.{do_command, holder_of, refusal_of};
+ghost use Rattle.state_model.specs.Rows.{is_live};
 ghost use Rattle.state_model.specs.Spelled.{are_spelled};
 ghost use Rattle.state_model.specs.State as state;
 ghost use Rattle.command_laws.specs.Kept.{IsKept};
@@ -12,9 +13,10 @@ ghost use Rattle.instance_table.specs.Holders.{holders_of};
 ghost use Rattle.command_laws.specs.Later.{IsLater};
 ghost use Rattle.instance_table.specs.Table.{Answers, freed_numbers, new_table, value_of};
 
-use crate::behind::numbers_behind;
+use crate::behind::{numbers_behind, see_behind};
 use crate::body::Body;
 use crate::changes::change;
+use crate::fixed_room::FixedRoom;
 use crate::graph::Graph;
 use crate::made::made;
 use crate::plan::{Plan, Verdict};
@@ -40,6 +42,8 @@ pub struct Table {
     given: u32,
     totals: Totals,
     swept: RoomyList,
+    // Room for a walk to all rows, so that what a command is refused for is known whatever memory does.
+    spare: RoomyList,
 }
 
 impl Model for Table {
@@ -50,7 +54,8 @@ impl Model for Table {
 
     ghost view = { λ t. record { schema = t.schema; state = state_in t.graph.nodes t.given; swept = t.swept.numbers } };
 
-    ghost invariant = { λ t. IsTable t.schema t.graph.nodes t.given t.totals.places t.totals.text × (length t.graph.nodes ≤ t.swept.room) };
+    ghost invariant = { λ t. IsTable t.schema t.graph.nodes t.given t.totals.places t.totals.text
+        × (length t.graph.nodes ≤ t.swept.room) × (length t.graph.nodes ≤ t.spare.room) };
 }
 
 impl Table {
@@ -61,6 +66,8 @@ impl Table {
         let mut graph = Graph::new(alloc);
         let mut swept = RoomyList::new(alloc);
         swept.reserve(1)?;
+        let mut spare = RoomyList::new(alloc);
+        spare.reserve(1)?;
         let root = Body::Struct(schema.root, Rising::new(alloc));
         graph.add(alloc, RefNum(0), root)?;
         Ok(Table {
@@ -70,6 +77,7 @@ impl Table {
             given: 0,
             totals: Totals { places: 0, text: 0 },
             swept,
+            spare,
         })
     }
 
@@ -83,24 +91,25 @@ impl Table {
     }
 
     /// Does a command, or answers the first cause for which it is refused. Some exactly for a command that makes a row:
-    /// the row's number. A refused command changes nothing, and one for which memory is wanting neither. Commands that
-    /// only take places out take no memory. What stays keeps its kind and its key, and no number is given again.
+    /// the row's number. A refused command changes nothing, and one for which memory is wanting neither. A refusal is
+    /// told whatever memory does, and commands that only take places out take no memory. What stays keeps its kind and
+    /// its key, and no number is given again.
     pub fn apply(&mut self, command: &Command) -> Result<Option<RefNum>, TableFault>
         ensures answer { Answers (do_command self.old.schema self.old.state command.now) self.old self.new result }
         ensures later { IsLater self.old.state self.new.state }
         ensures sure { result ≡ Err fault.Memory → takes_out command.now ≡ false }
+        ensures lacks { result ≡ Err fault.Memory → is_ok (do_command self.old.schema self.old.state command.now) ≡ true }
     {
         know_texts(command);
-        let Ok(verdict) = judge(
+        let verdict = judge(
             self.alloc,
+            &mut self.spare,
             &self.schema,
             &self.graph,
             self.given,
             self.totals,
             command,
-        ) else {
-            return Err(TableFault::Memory);
-        };
+        );
         match verdict {
             Verdict::Refused(fault) => Err(fault),
             Verdict::Makes => match self.make(command) {
@@ -145,6 +154,7 @@ impl Table {
         };
         let who = RefNum(self.given + 1);
         self.swept.reserve(self.graph.len() + 1)?;
+        self.spare.reserve(self.graph.len() + 1)?;
         self.graph.add(self.alloc, who, body)?;
         self.given += 1;
         Ok(Some(who))
@@ -184,8 +194,8 @@ impl Table {
     }
 
     /// The number of a row and every number that is reached from it through places that are untagged or have the tag,
-    /// rising; None exactly where the row isn't live. Every item of a collection leads on. It looks once at each place
-    /// of the rows of these numbers, and at no others.
+    /// rising; None exactly where the row isn't live, which takes no memory. Every item of a collection leads on. It looks
+    /// once at each place of the rows of these numbers, and at no others.
     pub fn behind<L: Ledger>(
         &self,
         who: RefNum,
@@ -194,6 +204,7 @@ impl Table {
     ) -> Result<Option<Vec<RefNum>>, Memory>
         ensures value { IfOk result (λ found.
             option_map (λ ns. ns.items) found ≡ numbers_behind self.now.schema self.now.state.rows who tag) }
+        ensures lacks { OnErr result (is_live self.now.state.rows who ≡ true) }
         ensures cost { OnOk result (
             steps.new ≡ steps.old + places_behind self.now.schema self.now.state.rows who tag) }
         ensures most { steps.new ≤ steps.old + places_behind self.now.schema self.now.state.rows who tag }
@@ -204,6 +215,35 @@ impl Table {
         let nodes = self.graph.nodes();
         let numbers = numbers_behind(self.alloc, &self.schema, nodes, who, tag, steps)?;
         Ok(Some(numbers))
+    }
+
+    /// What `behind` finds, in a room that is given, so that it takes no memory: whether the row is live, and then the
+    /// numbers, which the room saw.
+    pub fn see_behind<L: Ledger>(
+        &self,
+        who: RefNum,
+        tag: Tag,
+        room: &mut FixedRoom,
+        steps: &mut Steps<L>,
+    ) -> bool
+        ensures live { result ≡ is_live self.now.state.rows who }
+        ensures value { (if result then Some room.new.seen else None) ≡ numbers_behind self.now.schema self.now.state.rows who tag }
+        ensures cost { steps.new ≡ steps.old + places_behind self.now.schema self.now.state.rows who tag }
+    {
+        let nodes = self.graph.nodes();
+        if nodes.get(who).is_none() {
+            return false;
+        }
+        room.clear();
+        see_behind(&self.schema, nodes, who, tag, room, steps);
+        true
+    }
+
+    /// How many rows there are.
+    pub fn len(&self) -> usize
+        ensures { result ≡ length self.now.state.rows }
+    {
+        self.graph.len()
     }
 
     /// All rows.

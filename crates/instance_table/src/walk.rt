@@ -1,6 +1,7 @@
 //! Whether a row reaches another.
-ghost use Rattle.std.specs.Prelude.{◌≡◌, ◌++◌, [], ℕ, true, false, IfOk, OnOk};
+ghost use Rattle.std.specs.Prelude.{◌≡◌, ◌≤◌, ◌++◌, [], ℕ, length, true, false, IfOk, OnOk};
 ghost use Rattle.state_model.specs.Reached.{is_among, reached};
+ghost use Rattle.state_model.specs.Rows.{is_live};
 ghost use Rattle.state_model.specs.Sound.{are_sound};
 ghost use Rattle.schema_model.specs.Classes.{Schema};
 ghost use Rattle.plain_rows.specs.Links.{held_at};
@@ -11,6 +12,8 @@ ghost use Rattle.instance_table.specs.Ways.{IsTurned, left_of, rows_along};
 
 use crate::links::add_links;
 use crate::nodes::Nodes;
+use crate::roomy_list::RoomyList;
+use crate::spare_walk::reaches_back;
 use crate::way::Way;
 use plain_rows::NumberSet;
 use schema_model::{Memory, RefNum};
@@ -59,7 +62,8 @@ fn turn(
 
 // Whether a way leads nowhere from the row of a number, as is seen at once.
 fn is_end(nodes: &Nodes, way: Way, who: RefNum) -> bool
-    ensures { result ≡ true → held_at (rows_along way nodes.now) who ≡ [] }
+    ensures nowhere { result ≡ true → held_at (rows_along way nodes.now) who ≡ [] }
+    ensures live { result ≡ false → is_live (rows_in nodes.now) who ≡ true }
 {
     let Some(node) = nodes.get(who) else {
         return true;
@@ -73,23 +77,35 @@ fn is_end(nodes: &Nodes, way: Way, who: RefNum) -> bool
 /// Whether one row reaches another by way of links. Where the one holds nothing, or nothing holds the other, that is
 /// answered at once. Else it walks from both ends, a row of each in turn, along the links from the one and along the
 /// holders from the other, until it gets to the other end or one side is spent. It looks once at each place and each
-/// holder of the rows that it comes to, and at no others.
-pub fn reaches(alloc: Global, nodes: &Nodes, from: RefNum, to: RefNum) -> Result<bool, Memory>
+/// holder of the rows that it comes to, and at no others. Where memory is wanting for that, it walks back alone, in a
+/// list with room for all rows.
+pub fn reaches(
+    alloc: Global,
+    spare: &mut RoomyList,
+    nodes: &Nodes,
+    from: RefNum,
+    to: RefNum,
+) -> bool
     requires sound { (schema : Schema) × (are_sound schema (rows_in nodes.now) ≡ true) }
     requires exact { IsExact nodes.now }
-    ensures { IfOk result (λ found. found ≡ is_among to (reached (rows_in nodes.now) from)) }
+    requires room { length nodes.now ≤ spare.old.room }
+    ensures value { result ≡ is_among to (reached (rows_in nodes.now) from) }
+    ensures kept { spare.old.room ≤ spare.new.room }
 {
     nodes.know_rising();
     if from == to {
-        return Ok(true);
+        return true;
     }
     if is_end(nodes, Way::Holders, to) {
-        return Ok(false);
+        return false;
     }
     if is_end(nodes, Way::Links, from) {
-        return Ok(false);
+        return false;
     }
-    meets(alloc, nodes, from, to)
+    match meets(alloc, nodes, from, to) {
+        Ok(found) => found,
+        Err(Memory) => reaches_back(spare, nodes, from, to),
+    }
 }
 
 // The same, by walking from both ends.

@@ -1,3 +1,3 @@
 pub mod EntryRows
-pub mod SentRows
 pub mod LatestRows
+pub mod SentRows

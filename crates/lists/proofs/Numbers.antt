@@ -1,5 +1,5 @@
 -- Small facts of numbers and of how they are ordered.
-use Rattle.std.proofs.Common.{◌≡◌, ℕ, true, ◌&&◌, ◌==◌, nat_cmp, Ordering, Less, Equal, Greater, refl, arith}
+use Rattle.std.proofs.Common.{◌≡◌, ℕ, suc, ◌+◌, true, ◌&&◌, ◌==◌, nat_cmp, Ordering, Less, Equal, Greater, refl, arith}
 use Rattle.std.specs.Ordering.{is_eq, ordering_then}
 use Rattle.std.proofs.lemmas.Bool.{eq-eqb}
 use Rattle.std.proofs.lemmas.Bool.Decides.{nat_tests}
@@ -17,3 +17,7 @@ both_equal Greater b = refl
 -- numbers that their order calls equal are the same
 pub cmp_same : (a b : ℕ) → is_eq (nat_cmp a b) ≡ (a == b)
 cmp_same a b = grind (arith, nat_tests)
+
+-- one more than a number is the next one
+pub one_up : (n : ℕ) → 1 + n ≡ suc n
+one_up n = omega arith

@@ -31,3 +31,7 @@ mapped_none f (Some a) h = cc
 pub taken_if : {A : Type 0} (test : Bool) (o : Option A) (x : A) → cond test o None ≡ Some x → (test ≡ true) × (o ≡ Some x)
 taken_if true o x h = (refl, h)
 taken_if false o x h = cc
+
+-- what is in one option is what is in another of the same
+pub same_some : {A : Type 0} (x y : A) → Some x ≡ Some y → x ≡ y
+same_some x y h = cc

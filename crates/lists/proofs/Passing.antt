@@ -37,11 +37,11 @@ abbrev pub StandsIn : {X : Type 0} → X → List X → Type 0
 StandsIn {X} x xs = (t : X → Bool) → t x ≡ true → list_any t xs ≡ true
 
 -- the first item stands in its list
-stands_first : {X : Type 0} (x : X) (xs : List X) → StandsIn x (x ∷ xs)
+pub stands_first : {X : Type 0} (x : X) (xs : List X) → StandsIn x (x ∷ xs)
 stands_first x xs t h = ap (λ b. b || list_any t xs) h
 
 -- what stands behind an item stands in the whole list
-stands_behind : {X : Type 0} (x y : X) (xs : List X) → StandsIn x xs → StandsIn x (y ∷ xs)
+pub stands_behind : {X : Type 0} (x y : X) (xs : List X) → StandsIn x xs → StandsIn x (y ∷ xs)
 stands_behind x y xs s t h = grind (arith, nat_tests, s t h)
 
 -- where all pass a test, all pass another that each item of the list passes with it
@@ -162,14 +162,16 @@ module _ {E : Type 0} (key : E → ℕ) where
   pub found_passing : (p : E → Bool) (low : ℕ) (es : List E) → RisesFrom key low es → list_any p es ≡ true → (e : E) × (find key (key e) es ≡ Some e) × (p e ≡ true)
   found_passing p low [] r h = cc
   found_passing p low (x ∷ es) r h =
-      let go : (b : Bool) → p x ≡ b → (e : E) × (find key (key e) (x ∷ es) ≡ Some e) × (p e ≡ true) = elim [ true ↦ λ t. (x, find_first key x es, t) | false ↦ λ f. let rest = found_passing p (suc (key x)) es r.1 (rw f at h) in (rest.0, found_behind x es (key rest.0) rest.0 r.1 rest.1, rest.2) ] in
+      let go : (b : Bool) → p x ≡ b → (e : E) × (find key (key e) (x ∷ es) ≡ Some e) × (p e ≡ true) =
+      elim [ true ↦ λ t. (x, find_first key x es, t) | false ↦ λ f. let rest = found_passing p (suc (key x)) es r.1 (rw f at h) in (rest.0, found_behind x es (key rest.0) rest.0 r.1 rest.1, rest.2) ] in
       go (p x) refl
 
   is_found : (k : ℕ) (es : List E) (e : E) → find key k es ≡ Some e → is_some (find key k es) ≡ true
   is_found k es e h = ap is_some h
 
   -- what is found behind the first item is found in another list without the first one's key
-  found_without : (low : ℕ) (x : E) (xs ys : List E) → RisesFrom key low (x ∷ xs) → ((k : ℕ) → is_some (find key k (x ∷ xs)) ≡ true → is_some (find key k ys) ≡ true) → (k : ℕ) → is_some (find key k xs) ≡ true → is_some (find key k (remove key (key x) ys)) ≡ true
+  found_without : (low : ℕ) (x : E) (xs ys : List E) → RisesFrom key low (x ∷ xs) → ((k : ℕ) → is_some (find key k (x ∷ xs)) ≡ true → is_some (find key k ys) ≡ true) → (k : ℕ)
+      → is_some (find key k xs) ≡ true → is_some (find key k (remove key (key x) ys)) ≡ true
   found_without low x xs ys r h k t = grind (arith, nat_tests, find_below key (suc (key x)) xs k r.1, h k, find-remove key (key x) ys k)
 
   -- a rising list of which each key is found in another is no longer than that

@@ -142,7 +142,7 @@ after_none [] h = refl
 after_none (e ∷ es) h = cc
 
 -- an item behind others is no lower than the first
-at_least : {E : Type 0} (key : E → ℕ) (low : ℕ) (xs : List E) (x : E) (ys : List E) → RisesFrom key low (xs ++ x ∷ ys) → low ≤ key x
+pub at_least : {E : Type 0} (key : E → ℕ) (low : ℕ) (xs : List E) (x : E) (ys : List E) → RisesFrom key low (xs ++ x ∷ ys) → low ≤ key x
 at_least key low [] x ys r = r.0
 at_least key low (z ∷ xs) x ys r = omega (arith, r.0, at_least key (suc (key z)) xs x ys r.1)
 

@@ -37,7 +37,8 @@ module _ {E : Type 0} (key : E → ℕ) where
   pub Contains-find : (k : ℕ) (es : List E) (e : E) → find key k es ≡ Some e → Contains es e
   Contains-find k [] e h = cc
   Contains-find k (x ∷ es) e h =
-      let cases : (b : Bool) → (key x == k) ≡ b → Contains (x ∷ es) e = elim [ true ↦ λ t. let same : Some x ≡ Some e = rw t at h in (0, omega arith, same_Some x e same) | false ↦ λ f. let c = Contains-find k es e (rw f at h) in (suc c.0, omega (arith, c.1), c.2) ] in
+      let cases : (b : Bool) → (key x == k) ≡ b → Contains (x ∷ es) e =
+      elim [ true ↦ λ t. let same : Some x ≡ Some e = rw t at h in (0, omega arith, same_Some x e same) | false ↦ λ f. let c = Contains-find k es e (rw f at h) in (suc c.0, omega (arith, c.1), c.2) ] in
       cases (key x == k) refl
 
   pub find-Contains : (low : ℕ) (es : List E) (e : E) → RisesFrom key low es → Contains es e → find key (key e) es ≡ Some e

@@ -34,3 +34,8 @@ from_not b false e t = refl
 pub from_is : (b c : Bool) → b ≡ not c → b ≡ false → c ≡ true
 from_is b true e f = refl
 from_is b false e f = cc
+
+-- where neither of two tests holds
+pub or_false : (a b : Bool) → (a || b) ≡ false → (a ≡ false) × (b ≡ false)
+or_false true b h = cc
+or_false false b h = (refl, h)

@@ -1,6 +1,7 @@
 //! A room's state.
-ghost use Rattle.std.specs.Prelude.{◌≡◌, ◌+◌, ◌≤◌, true, false, Err, IfOk, IsTrue, OnOk};
+ghost use Rattle.std.specs.Prelude.{◌≡◌, ◌+◌, ◌≤◌, true, false, Err, IfOk, IsTrue, OnOk, is_ok};
 ghost use Rattle.schema_model.specs.Classes.{is_kept};
+ghost use Rattle.state_model.specs.declared.command.TableFault.TheVariants as fault;
 ghost use Rattle.state_model.specs.Commands.{do_command};
 ghost use Rattle.state_model.specs.Members.{pairs_behind};
 ghost use Rattle.state_model.specs.Rows.{is_live, place_count};
@@ -47,18 +48,19 @@ impl LiveState {
     }
 
     /// Does a command, or answers the first cause for which it is refused; see `Table::apply`. A refused command changes
-    /// nothing, and one for which memory is wanting neither.
+    /// nothing, and one for which memory is wanting neither. A refusal is told whatever memory does.
     pub fn apply(&mut self, command: &Command) -> Result<Option<RefNum>, TableFault>
         ensures answer { Answers (do_command self.old.table.schema self.old.table.state command.now) self.old.table self.new.table result }
         ensures schema { schema_of self.new ≡ schema_of self.old }
         ensures later { IsLater self.old.table.state self.new.table.state }
+        ensures lacks { result ≡ Err fault.Memory → is_ok (do_command self.old.table.schema self.old.table.state command.now) ≡ true }
     {
         self.table.apply(command)
     }
 
     /// The pairs of a view edit: of a row under a tag, and of every row that is reached from it through places that are
-    /// untagged or have the tag; rising. NoRef exactly where the row isn't live. It takes a step for each place of these
-    /// rows, and for no others.
+    /// untagged or have the tag; rising. NoRef exactly where the row isn't live, whatever memory does. It takes a step for
+    /// each place of these rows, and for no others.
     pub fn expand<L: Ledger>(
         &self,
         who: RefNum,
@@ -68,6 +70,7 @@ impl LiveState {
         ensures pairs { IfOk result (λ pairs. (is_live (rows_of self.now) who ≡ true)
             × (pairs.items ≡ pairs_behind (schema_of self.now) (rows_of self.now) (record { who = who; tag = tag }))) }
         ensures none { result ≡ Err ExpandFault.NoRef → is_live (rows_of self.now) who ≡ false }
+        ensures lacks { result ≡ Err ExpandFault.Memory → is_live (rows_of self.now) who ≡ true }
         ensures cost { OnOk result (steps.new ≡ steps.old + places_behind (schema_of self.now) (rows_of self.now) who tag) }
         ensures most { steps.new ≤ steps.old + places_behind (schema_of self.now) (rows_of self.now) who tag }
         ensures cost_of_none { result ≡ Err ExpandFault.NoRef → steps.new ≡ steps.old + places_behind (schema_of self.now) (rows_of self.now) who tag }
@@ -113,8 +116,8 @@ impl LiveState {
         self.table.rows()
     }
 
-    /// Frees the rows that nothing holds, before a tick is encoded. It takes at most a step for each place of the state.
-    /// After an `Err` the state is used no more.
+    /// Frees the rows that nothing holds, before a tick is encoded. A sweep isn't counted in steps: it takes none, though
+    /// a step for each place of the state is allowed. After an `Err` the state is used no more.
     pub fn sweep<L: Ledger>(&mut self, _steps: &mut Steps<L>) -> Result<(), Memory>
         ensures freed { OnOk result (self.new.table ≡ swept_table self.old.table) }
         ensures later { OnOk result (IsLater self.old.table.state self.new.table.state) }

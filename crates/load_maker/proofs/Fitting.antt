@@ -10,6 +10,7 @@ use lib.Utf8.{encode}
 use Rattle.schema_model.specs.Ids.{is_id}
 use Rattle.state_model.specs.declared.command.Command.TheVariants.{Put}
 use Rattle.lists.specs.declared.memory.Memory.{Memory}
+use Rattle.lists.proofs.Passing.{all_append}
 use Rattle.hub_model.specs.declared.event.HubEvent.{HubEvent}
 use Rattle.hub_model.specs.declared.event.HubEvent.TheVariants.{Lost, Tick}
 use Rattle.text_model.specs.declared.schedule.Schedule.{Schedule}
@@ -18,7 +19,6 @@ use Rattle.text_model.specs.Events.{is_event, is_number}
 use Rattle.text_model.specs.Schedules.{is_schedule}
 use Rattle.text_model.specs.SchemaLines.{is_spelled}
 use Rattle.text_model.specs.WordForms.{is_text}
-use Rattle.text_model.proofs.Spaced.{all_append}
 use Rattle.schedule_text.proofs.AgainLaws.{law}
 use Rattle.load_maker.specs.Again.{MadeIsRead}
 use Rattle.load_maker.specs.Generated.{acknowledged, after_move, after_round, again, commanded, conn_before, drawn, dropped_or_returned, game_made, game_schema, generated, gold_given, most_moves, most_players, most_rounds, most_things, next_state, player_row, process_id, reopened, return_id, return_target, returned_in, room_id, round_from, rounds_from, session_id, thing_moved, thing_row, things_moved, token_before, up_to, whole}

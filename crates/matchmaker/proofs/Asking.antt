@@ -6,6 +6,7 @@ use Rattle.std.specs.Str.{is_utf8}
 use Rattle.json.specs.Json.{Json, if_last, value}
 use Rattle.json.specs.Lex.{tokens}
 use Rattle.serde_json.specs.Read.{of_json, read}
+use Rattle.lists.proofs.Tests.{or_wider}
 use Rattle.room_model.specs.declared.definition.RoomDef.{RoomDef}
 use Rattle.hub_model.specs.declared.request.AskFault.{AskFault}
 use Rattle.hub_model.specs.declared.request.AskFault.TheVariants.{NoMethod, BadPayload, NoHandler, Memory}
@@ -15,7 +16,7 @@ use Rattle.validate.specs.Json.{is_json}
 use Rattle.matchmaker.specs.Bodies.{can_be_read, said_by, said_of_data}
 use Rattle.matchmaker.specs.Gives.{GivesAsked, GivesRequest, LacksBody, has_escape, takes_memory}
 
-or_last : (a b : Bool) → b ≡ true → (a || b) ≡ true
+pub or_last : (a b : Bool) → b ≡ true → (a || b) ≡ true
 or_last true b h = refl
 or_last false b h = h
 
@@ -26,11 +27,6 @@ lacks defs asked raw body BadPayload h = rw h refl
 lacks defs asked raw body NoHandler h = elim h [ ]
 lacks defs asked raw body Memory h = let long : nat_lt 0 (length body) ≡ true = grind (arith, nat_tests) in inr (or_last (has_escape raw) (nat_lt 0 (length body)) long)
 
--- an escape of the name is one of the target
-or_more : (a b c : Bool) → (a ≡ true → b ≡ true) → (a || c) ≡ true → (b || c) ≡ true
-or_more true b c f h = rw (f refl) refl
-or_more false b c f h = or_last b c h
-
 -- and the body can be read
 pub given : (defs : List RoomDef) (target raw body : List ℕ) (asked : Asked) (r : Result Request AskFault) → Some asked ≡ asked_of target → can_be_read body ≡ true → (has_escape raw ≡ true → has_escape target ≡ true)
     → GivesAsked raw body r (with_body defs asked (said_by body)) → GivesRequest target body r (read_request defs target (said_by body))
@@ -40,7 +36,7 @@ given defs target raw body asked (Err BadPayload) is reads escape h = rw (← is
 given defs target raw body asked (Err NoHandler) is reads escape h = rw (← is) h
 given defs target raw body asked (Err Memory) is reads escape h =
     let both : (is_some (asked_of target) && can_be_read body) ≡ true = rw (← is, reads) refl in
-    let taken : IsOk (read_request defs target (said_by body)) ⊎ IsTrue (takes_memory target body) = rw (← is) (elim h [ inl ok ↦ inl ok | inr takes ↦ inr (or_more (has_escape raw) (has_escape target) (nat_lt 0 (length body)) escape takes) ]) in
+    let taken : IsOk (read_request defs target (said_by body)) ⊎ IsTrue (takes_memory target body) = rw (← is) (elim h [ inl ok ↦ inl ok | inr takes ↦ inr (or_wider (has_escape raw) (has_escape target) (nat_lt 0 (length body)) escape takes) ]) in
     (both, taken)
 
 -- what can't be read says nothing

@@ -13,6 +13,7 @@ use Rattle.serde_json.specs.Data.{Data, null, boolean, number, string, array, ob
 use Rattle.serde_json.specs.Find.{as_object, as_str, get, get_member}
 use Rattle.serde_json.specs.Read.{read}
 use Rattle.serde_json.specs.Written.{compact_text, has_float, members_have_float}
+use Rattle.lists.proofs.Tests.{or_false}
 use Rattle.schema_model.specs.Ids.{is_id}
 use Rattle.hub_model.specs.Requests.{Member, said_of}
 use Rattle.matchmaker.specs.Bodies.{all_said, id_said, members_in, members_said, said_by, said_in, said_of_data, token_in}
@@ -76,11 +77,6 @@ said_found key (number n) = refl
 said_found key (string s) = refl
 said_found key (array ds) = refl
 said_found key (object ms) = members_found key ms
-
--- a member of an object without floats has none
-or_false : (a b : Bool) → (a || b) ≡ false → (a ≡ false) × (b ≡ false)
-or_false true b h = absurd (true≢false h)
-or_false false b h = (refl, h)
 
 whole_order : (o : Ordering) (d x : Data) (rest : Option Data) → has_float d ≡ false → (rest ≡ Some x → has_float x ≡ false) → match_ordering o rest (Some d) rest ≡ Some x → has_float x ≡ false
 whole_order Less d x rest here later h = later h

@@ -3,6 +3,7 @@ use Rattle.std.proofs.Common.{◌≡◌, ℕ, ◌==◌, ◌++◌, ◌||◌, true
 use Rattle.std.proofs.lemmas.Bool.{cases_Bool}
 use Rattle.hub_model.specs.Requests.{after_prefix, up_to}
 use Rattle.matchmaker.specs.Gives.{has_escape}
+use Rattle.matchmaker.proofs.Asking.{or_last}
 
 -- a prefix of two parts
 pub behind_parts : (a b t : List ℕ) → after_prefix (a ++ b) t ≡ option_and_then (after_prefix b) (after_prefix a t)
@@ -17,10 +18,6 @@ pub behind_nothing : (a b t u : List ℕ) → u ≡ t → None ≡ after_prefix 
 behind_nothing a b t u same first = let found : after_prefix a t ≡ None = rw (← same) (sym first) in rw (behind_parts a b t, found) refl
 
 -- ---- escapes
-
-escape_or : (a b : Bool) → b ≡ true → (a || b) ≡ true
-escape_or true b h = refl
-escape_or false b h = h
 
 escape_both : (a b c : Bool) → (b ≡ true → c ≡ true) → (a || b) ≡ true → (a || c) ≡ true
 escape_both true b c f h = refl
@@ -39,7 +36,7 @@ escape_prefix : (prefix t r : List ℕ) → after_prefix prefix t ≡ Some r →
 escape_prefix [] t r h e = let is : t ≡ r = cc in rw is e
 escape_prefix (x ∷ xs) [] r h e = absurd cc
 escape_prefix (x ∷ xs) (y ∷ ys) r h e = elim (cases_Bool (x == y)) [
-  | inl same ↦ escape_or (y == 37) _ (escape_prefix xs ys r (rw same at h) e)
+  | inl same ↦ or_last (y == 37) _ (escape_prefix xs ys r (rw same at h) e)
   | inr other ↦ (let k = rw other at h in absurd cc)
 ]
 

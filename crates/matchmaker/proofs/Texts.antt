@@ -18,7 +18,8 @@ up_to_is b (x ∷ xs) = let go : (t : Bool) → x == b ≡ t → up_to b (x ∷ 
 
 pub behind_is : (b : ℕ) (xs : List ℕ) → behind b xs ≡ drop (position_or_len (λ x. x == b) xs + 1) xs
 behind_is b [] = grind (arith, common_steps)
-behind_is b (x ∷ xs) = let go : (t : Bool) → x == b ≡ t → behind b (x ∷ xs) ≡ drop (position_or_len (λ x. x == b) (x ∷ xs) + 1) (x ∷ xs) = elim [ true ↦ λ h. rw h (grind (arith, common_steps)) | false ↦ λ h. rw h (grind (arith, common_steps, behind_is b xs)) ] in go (x == b) refl
+behind_is b (x ∷ xs) = let go : (t : Bool) → x == b ≡ t → behind b (x ∷ xs) ≡ drop (position_or_len (λ x. x == b) (x ∷ xs) + 1) (x ∷ xs) =
+    elim [ true ↦ λ h. rw h (grind (arith, common_steps)) | false ↦ λ h. rw h (grind (arith, common_steps, behind_is b xs)) ] in go (x == b) refl
 
 grown_is : (x : ℕ) (ps : List (List ℕ)) → grown x ps ≡ onto_first x ps
 grown_is x [] = refl

@@ -204,7 +204,7 @@ fn room(
 }
 
 // A decision in one line.
-fn told(alloc: Global, decision: &Decision) -> Result<String, AllocError> {
+fn decision_text(alloc: Global, decision: &Decision) -> Result<String, AllocError> {
     match decision {
         Decision::Refuse(code, text) => {
             let text = text.as_str();
@@ -246,7 +246,7 @@ fn led(
         token: None,
     };
     let decision = decide(alloc, &defs, &rooms, &request, kept)?;
-    Ok(told(alloc, &decision)?)
+    Ok(decision_text(alloc, &decision)?)
 }
 
 #[test]

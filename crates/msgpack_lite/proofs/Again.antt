@@ -61,7 +61,8 @@ text_value t levels B prefix more is few good =
 binary_value : (t : List ℕ) (levels : ℕ) (B prefix more : List ℕ) → B ≡ prefix ++ (binary_bytes t ++ more) → length t < 2 ^ 32 → pack_at levels B (length prefix) ≡ Ok (binary t, length prefix + length (binary_bytes t))
 binary_value t levels B prefix more is few =
     let h = binary_head_is (length t) few in
-    let read : run_at h.len B (length prefix + 1) ≡ Ok (t, length prefix + length (binary_bytes t)) = subst (λ b. run_at h.len b (length prefix + 1) ≡ Ok (t, length prefix + length (binary_bytes t))) (sym is) (run_again form.Binary t (binary_head (length t)) prefix more h) in
+    let read : run_at h.len B (length prefix + 1) ≡ Ok (t, length prefix + length (binary_bytes t)) =
+    subst (λ b. run_at h.len b (length prefix + 1) ≡ Ok (t, length prefix + length (binary_bytes t))) (sym is) (run_again form.Binary t (binary_head (length t)) prefix more h) in
     opened form.Binary (length t) (binary_head (length t)) levels B prefix (t ++ more) h (parted B prefix (binary_head (length t)) t more is) ∙ ap (as_value binary) read
 
 -- ---- lists and maps, by what they hold
@@ -101,7 +102,8 @@ no_item : (f : ℕ → Result (PackData × ℕ) PackFault) (at : ℕ) → items_
 unfolding items_at
 no_item f at = ap (λ k. Ok (no_items, k)) (omega arith)
 
-next_member : (f : ℕ → Result (PackData × ℕ) PackFault) (B : List ℕ) (m at middle next end : ℕ) (q : List ℕ) (d : PackData) (ms : PackMembers) → key_at B at ≡ Ok (q, middle) → f middle ≡ Ok (d, next) → members_at f B m next ≡ Ok (ms, end) → members_at f B (suc m) at ≡ Ok (member q d ms, end)
+next_member : (f : ℕ → Result (PackData × ℕ) PackFault) (B : List ℕ) (m at middle next end : ℕ) (q : List ℕ) (d : PackData) (ms : PackMembers) → key_at B at ≡ Ok (q, middle)
+    → f middle ≡ Ok (d, next) → members_at f B m next ≡ Ok (ms, end) → members_at f B (suc m) at ≡ Ok (member q d ms, end)
 unfolding members_at
 next_member f B m at middle next end q d ms g h k = rw (g, h, k) refl
 
@@ -112,7 +114,8 @@ no_member f B at = ap (λ k. Ok (no_members, k)) (omega arith)
 -- ---- all values
 
 mutual
-  pub pack_again : (d : PackData) (levels : ℕ) (B prefix more : List ℕ) → B ≡ prefix ++ (pack_bytes d ++ more) → depth d ≤ levels → has_bytes d ≡ true → are_texts d ≡ true → pack_at levels B (length prefix) ≡ Ok (d, length prefix + length (pack_bytes d))
+  pub pack_again : (d : PackData) (levels : ℕ) (B prefix more : List ℕ) → B ≡ prefix ++ (pack_bytes d ++ more) → depth d ≤ levels → has_bytes d ≡ true → are_texts d ≡ true
+      → pack_at levels B (length prefix) ≡ Ok (d, length prefix + length (pack_bytes d))
   pack_again nil levels B prefix more is deep has good = subst (λ b. pack_at levels b (length prefix) ≡ Ok (nil, length prefix + 1)) (sym is) (by_form levels prefix more 192 form.Nil single.0)
   pack_again (truth false) levels B prefix more is deep has good = subst (λ b. pack_at levels b (length prefix) ≡ Ok (truth false, length prefix + 1)) (sym is) (by_form levels prefix more 194 (form.Truth false) single.1)
   pack_again (truth true) levels B prefix more is deep has good = subst (λ b. pack_at levels b (length prefix) ≡ Ok (truth true, length prefix + 1)) (sym is) (by_form levels prefix more 195 (form.Truth true) single.2)
@@ -126,9 +129,11 @@ mutual
   pack_again (dict ms) zero B prefix more is deep has good = absurd (omega (arith, deep))
   pack_again (dict ms) (suc n) B prefix more is deep has good =
       let h = and_parts _ (members_have_bytes ms) has in
-      dict_again n ms B prefix more is (ltb_below (members_len ms) 4294967296 h.0) (members_again ms n B (prefix ++ dict_head (members_len ms)) more (behind B prefix (dict_head (members_len ms)) (members_bytes ms) more is) (omega (arith, deep)) h.1 good)
+      dict_again n ms B prefix more is (ltb_below (members_len ms) 4294967296 h.0)
+      (members_again ms n B (prefix ++ dict_head (members_len ms)) more (behind B prefix (dict_head (members_len ms)) (members_bytes ms) more is) (omega (arith, deep)) h.1 good)
 
-  pub items_again : (ds : PackItems) (n : ℕ) (B prefix more : List ℕ) → B ≡ prefix ++ (items_bytes ds ++ more) → items_depth ds ≤ n → items_have_bytes ds ≡ true → items_are_texts ds ≡ true → items_at (pack_at n B) (items_len ds) (length prefix) ≡ Ok (ds, length prefix + length (items_bytes ds))
+  pub items_again : (ds : PackItems) (n : ℕ) (B prefix more : List ℕ) → B ≡ prefix ++ (items_bytes ds ++ more) → items_depth ds ≤ n → items_have_bytes ds ≡ true → items_are_texts ds ≡ true
+      → items_at (pack_at n B) (items_len ds) (length prefix) ≡ Ok (ds, length prefix + length (items_bytes ds))
   items_again no_items n B prefix more is deep has good = no_item (pack_at n B) (length prefix)
   items_again (item d ds) n B prefix more is deep has good =
       let h = and_parts (has_bytes d) (items_have_bytes ds) has in
@@ -138,7 +143,8 @@ mutual
       let there = subst (λ k. items_at (pack_at n B) (items_len ds) k ≡ Ok (ds, k + length (items_bytes ds))) (length-append prefix (pack_bytes d)) rest in
       next_item (pack_at n B) (items_len ds) (length prefix) (length prefix + length (pack_bytes d)) _ d ds first there ∙ ap (λ k. Ok (item d ds, k)) (omega (arith, length-append (pack_bytes d) (items_bytes ds)))
 
-  pub members_again : (ms : PackMembers) (n : ℕ) (B prefix more : List ℕ) → B ≡ prefix ++ (members_bytes ms ++ more) → members_depth ms ≤ n → members_have_bytes ms ≡ true → members_are_texts ms ≡ true → members_at (pack_at n B) B (members_len ms) (length prefix) ≡ Ok (ms, length prefix + length (members_bytes ms))
+  pub members_again : (ms : PackMembers) (n : ℕ) (B prefix more : List ℕ) → B ≡ prefix ++ (members_bytes ms ++ more) → members_depth ms ≤ n → members_have_bytes ms ≡ true
+      → members_are_texts ms ≡ true → members_at (pack_at n B) B (members_len ms) (length prefix) ≡ Ok (ms, length prefix + length (members_bytes ms))
   members_again no_members n B prefix more is deep has good = no_member (pack_at n B) B (length prefix)
   members_again (member q d ms) n B prefix more is deep has good =
       let h = and_parts _ (has_bytes d && members_have_bytes ms) has in

@@ -89,7 +89,8 @@ unsigned : (size : Size) (levels : ℕ) (prefix more part : List ℕ) (first n :
 unsigned size levels prefix more part first n h k =
     by_form levels prefix (part ++ more) first (form.Unsigned size) h ∙ ap (as_value (λ x. whole (pos x))) (behind_byte (width_of size) prefix part more first n k)
 
-signed : (size : Size) (levels : ℕ) (prefix more part : List ℕ) (first m n : ℕ) → form_of first ≡ form.Signed size → IsNumber (width_of size) m part → cast_signed (width_of size) m ≡ negsuc n → IsRead levels prefix more (whole (negsuc n)) (first ∷ part)
+signed : (size : Size) (levels : ℕ) (prefix more part : List ℕ) (first m n : ℕ) → form_of first ≡ form.Signed size → IsNumber (width_of size) m part → cast_signed (width_of size) m ≡ negsuc n
+    → IsRead levels prefix more (whole (negsuc n)) (first ∷ part)
 signed size levels prefix more part first m n h k c =
     by_form levels prefix (part ++ more) first (form.Signed size) h
     ∙ (ap (as_value (λ x. whole (cast_signed (width_of size) x))) (behind_byte (width_of size) prefix part more first m k) ∙ ap (λ z. Ok (whole z, length prefix + suc (length part))) c)
@@ -211,7 +212,8 @@ dict_head_is n h =
 pub by_head : (f : Length → Form) (n : ℕ) (head : List ℕ) (levels : ℕ) (prefix more : List ℕ) (h : IsHead f n head)
     → pack_at levels (prefix ++ (head ++ more)) (length prefix) ≡ value_of_form (inside levels (prefix ++ (head ++ more))) (f h.len) (prefix ++ (head ++ more)) (length prefix)
 by_head f n head levels prefix more h =
-    let go : (x : List ℕ) → x ≡ head → pack_at levels (prefix ++ (x ++ more)) (length prefix) ≡ value_of_form (inside levels (prefix ++ (x ++ more))) (f h.len) (prefix ++ (x ++ more)) (length prefix) → pack_at levels (prefix ++ (head ++ more)) (length prefix) ≡ value_of_form (inside levels (prefix ++ (head ++ more))) (f h.len) (prefix ++ (head ++ more)) (length prefix)
+    let go : (x : List ℕ) → x ≡ head → pack_at levels (prefix ++ (x ++ more)) (length prefix) ≡ value_of_form (inside levels (prefix ++ (x ++ more))) (f h.len) (prefix ++ (x ++ more)) (length prefix)
+    → pack_at levels (prefix ++ (head ++ more)) (length prefix) ≡ value_of_form (inside levels (prefix ++ (head ++ more))) (f h.len) (prefix ++ (head ++ more)) (length prefix)
     = λ x e k. subst (λ y. pack_at levels (prefix ++ (y ++ more)) (length prefix) ≡ value_of_form (inside levels (prefix ++ (y ++ more))) (f h.len) (prefix ++ (y ++ more)) (length prefix)) e k in
     go (h.first ∷ h.rest) (sym h.is) (by_form levels prefix (h.rest ++ more) h.first (f h.len) h.tells)
 

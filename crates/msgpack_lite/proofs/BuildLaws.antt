@@ -136,7 +136,8 @@ pub list-length_fault : (f : Reader) (len : Length) (bytes : List ℕ) (at : ℕ
 unfolding list_at
 list-length_fault f len bytes at e h = rw h refl
 
-pub dict-is : (f : Reader) (len : Length) (bytes : List ℕ) (at count start end : ℕ) (ms : PackMembers) → length_at len bytes (at + 1) ≡ Ok (count, start) → members_at f bytes count start ≡ Ok (ms, end) → dict_at (Some f) len bytes at ≡ Ok (dict ms, end)
+pub dict-is : (f : Reader) (len : Length) (bytes : List ℕ) (at count start end : ℕ) (ms : PackMembers) → length_at len bytes (at + 1) ≡ Ok (count, start) → members_at f bytes count start ≡ Ok (ms, end)
+    → dict_at (Some f) len bytes at ≡ Ok (dict ms, end)
 unfolding dict_at
 dict-is f len bytes at count start end ms h k = rw (h, k) refl
 

@@ -139,7 +139,8 @@ dicts levels None l bytes at h = tt
 dicts zero (Some f) l bytes at h = elim h [ ]
 dicts (suc levels) (Some f) l bytes at h =
     then (λ n. at + 1 ≤ n.1) (Value (suc levels) at) (length_at l bytes (at + 1)) _ (len l bytes (at + 1)) (λ n k.
-    as_dict levels at (members_at f bytes n.0 n.1) (so (Holds members_depth members_weight levels n.1) (Holds members_depth members_weight levels (at + 1)) (members_at f bytes n.0 n.1) (λ r m. (m.0, omega (arith, k, m.1))) (members_hold f bytes levels n.0 n.1 h)))
+    as_dict levels at (members_at f bytes n.0 n.1) (so (Holds members_depth members_weight levels n.1) (Holds members_depth members_weight levels (at + 1)) (members_at f bytes n.0 n.1)
+    (λ r m. (m.0, omega (arith, k, m.1))) (members_hold f bytes levels n.0 n.1 h)))
 
 -- ---- a value
 

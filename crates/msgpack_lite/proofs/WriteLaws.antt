@@ -1,6 +1,5 @@
 -- Values and pairs written one behind another.
 use Rattle.std.proofs.Common.{◌≡◌, ℕ, suc, ◌<◌, ◌≤◌, Bool, true, false, ◌&&◌, max, List, [], ◌∷◌, ◌++◌, length, refl, sym, ap, ◌∙◌, arith}
-use Rattle.std.specs.Prelude.{Result, Ok, Err, OnErr}
 use Rattle.std.specs.Cmp.Derive.{both_true}
 use Rattle.std.specs.Str.{is_utf8}
 use Rattle.std.proofs.lemmas.Bool.{and_parts}
@@ -63,10 +62,6 @@ next_pair_bytes left q d rest done all is h =
 
 pub short_is : (n m : ℕ) → is_short n ≡ true → m ≡ n → m < 4294967296
 short_is n m h k = grind (arith, nat_tests, h, k)
-
-pub on_err : {A E : Type 0} {P : Type 0} (r : Result A E) → P → OnErr r P
-on_err (Ok a) p = tt
-on_err (Err e) p = p
 
 -- where a length is too long, and where none is
 pub too_long : (n m : ℕ) (b x : Bool) → b ≡ false → b ≡ is_short n → n ≡ m → false ≡ (is_short m && x)

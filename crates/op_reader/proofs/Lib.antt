@@ -1,2 +1,2 @@
-pub mod Within
 pub mod HolderKinds
+pub mod Within

@@ -1,3 +1,3 @@
+pub mod Homes
 pub mod Known
 pub mod Puts
-pub mod Homes

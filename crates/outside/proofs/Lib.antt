@@ -1,5 +1,5 @@
 pub mod CallLaws
+pub mod ReadLaws
 pub mod StdLaws
 pub mod StreamLaws
-pub mod ReadLaws
 pub mod TakeLaws

@@ -34,10 +34,6 @@ consumes_hands (Some xs) (Some ys) (Some zs) count buffer h k e =
 consumes_hands (Some xs) (Some ys) None count buffer h k e = absurd k
 consumes_hands (Some xs) None c count buffer h k e = absurd (cc)
 
-pub takes_nothing : (a : Option (List ℕ)) → Takes a a []
-takes_nothing None = tt
-takes_nothing (Some xs) = ap Some (sym (append-nil xs))
-
 -- nothing was written, and then nothing more
 pub takes_kept : (a b c : Option (List ℕ)) (bytes : List ℕ) → Takes a b bytes → std.Keeps b c → Takes a c bytes
 takes_kept None b c bytes h k = tt

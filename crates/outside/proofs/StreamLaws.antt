@@ -4,7 +4,7 @@ use Rattle.std.proofs.lemmas.List.{take-append-drop, drop-drop}
 use Rattle.std.proofs.Math.Seq.{take-append_seam}
 use Rattle.outside.specs.Streams.{Hands}
 
--- the bytes from a place on are those that are copied to the prefix of a buffer, and the bytes after them
+-- the bytes from a place on are those that are copied to the front of a buffer, and the bytes after them
 front_and_rest :
     (items after : List ℕ) (at count : ℕ) → count ≤ length (drop at items) →
     drop at items ≡ take count (take count (drop at items) ++ after) ++ drop (at + count) items

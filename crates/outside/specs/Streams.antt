@@ -2,7 +2,7 @@
 use Rattle.std.specs.Prelude.{◌≡◌, ℕ, ◌<◌, List, ◌++◌, length, take, Option, Some, IfSome, Result, Ok, Err}
 use Rattle.outside.specs.declared.fault.Failed.{Failed}
 
--- of its bytes it put so many at the prefix of the buffer, and has the others left; none are put
+-- of its bytes it put so many at the front of the buffer, and has the others left; none are put
 -- exactly where there are none or the buffer is empty
 pub record Hands (bytes : List ℕ) (left : Option (List ℕ)) (count : ℕ) (buffer : List ℕ) : Type 0 where
   pub parts : (rest : List ℕ) × (left ≡ Some rest) × (bytes ≡ take count buffer ++ rest)

@@ -32,7 +32,7 @@ impl Model for MemWire {
 }
 
 impl MemWire {
-    /// A wire on which this happens, the prefix first, with the numbers of the calls that are to fail.
+    /// A wire on which this happens, the first event first, with the numbers of the calls that are to fail.
     /// It takes no memory yet.
     pub fn new(alloc: Global, coming: Vec<Happening>, failing: Vec<u64>) -> Self
         ensures coming { result.coming ≡ coming.items }

@@ -5,6 +5,7 @@ use Rattle.std.specs.Option.{option_map}
 use Rattle.std.specs.Prelude.{nat_lt, nat_le}
 use Rattle.std.proofs.lemmas.Bool.{and_parts}
 use Rattle.std.proofs.lemmas.Bool.Decides.{nat_tests}
+use Rattle.lists.proofs.ListFacts.{all-slice_get}
 use Rattle.schema_model.specs.declared.class.Class.{Class}
 use Rattle.schema_model.specs.declared.class.FieldDecl.{FieldDecl}
 use Rattle.schema_model.specs.declared.class.Item.{Item}
@@ -47,12 +48,6 @@ kept_parts s h =
 pub root_known : (s : Schema) → is_kept s ≡ true → AreKnown s (root_alone s)
 root_known s h = record { root = refl; kinds = ap (λ b. b && true) (kept_parts s h).0 }
 
--- one of items that all pass
-passes : {A : Type 0} (p : A → Bool) (xs : List A) (i : ℕ) (x : A) → list_all p xs ≡ true → slice_get xs i ≡ Some x → p x ≡ true
-passes p [] i x h e = absurd (cc)
-passes p (y ∷ ys) zero x h e = let same : y ≡ x = cc in ap p (sym same) ∙ (and_parts (p y) (list_all p ys) h).0
-passes p (y ∷ ys) (suc i) x h e = passes p ys i x (and_parts (p y) (list_all p ys) h).1 e
-
 -- one of a class's own fields
 own_is : (n : ℕ) (fs : List FieldDecl) (i : ℕ) (d : Declared) → slice_get (map (declared_by n) fs) i ≡ Some d → (f : FieldDecl) × (slice_get fs i ≡ Some f) × (d ≡ declared_by n f)
 own_is n [] i d e = absurd (cc)
@@ -81,8 +76,8 @@ own_declared : (s : Schema) (n index i : ℕ) (c : Class) (d : Declared) → are
     slice_get (map (declared_by n) c.own) i ≡ Some d → IsDeclared s index d
 own_declared s n index i c d ranged at there own =
     let f = own_is n c.own i d own in
-    let fields : list_all (λ (f : FieldDecl). item_in_range (length s.classes) (item_of f.shape)) c.own ≡ true = passes _ s.classes n c ranged at in
-    let fits : item_in_range (length s.classes) (item_of f.0.shape) ≡ true = passes (λ (f : FieldDecl). item_in_range (length s.classes) (item_of f.shape)) c.own i f.0 fields f.1 in
+    let fields : list_all (λ (f : FieldDecl). item_in_range (length s.classes) (item_of f.shape)) c.own ≡ true = all-slice_get _ s.classes n c ranged at in
+    let fits : item_in_range (length s.classes) (item_of f.0.shape) ≡ true = all-slice_get (λ (f : FieldDecl). item_in_range (length s.classes) (item_of f.shape)) c.own i f.0 fields f.1 in
     subst (λ (d : Declared). IsDeclared s index d) (sym f.2) (record { home = own_found n f.0 (slice_get (fields_of s n) index) (there ∙ ap Some f.2); ranged = fits })
 
 -- each field of a class is one that a class declares

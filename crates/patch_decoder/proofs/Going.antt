@@ -7,6 +7,7 @@ use Rattle.std.proofs.lemmas.Bool.Decides.{nat_tests}
 use Rattle.lists.specs.Rising.{RisesFrom, find}
 use Rattle.lists.proofs.RisingLaws.{find_below}
 use Rattle.schema_model.specs.Classes.{Schema, is_kept}
+use Rattle.schema_model.proofs.FieldCounts.{and_no}
 use Rattle.state_model.specs.declared.row.RowEntry.{RowEntry}
 use Rattle.state_model.specs.Rows.{number_of, row_at, is_live, kinds_of}
 use Rattle.state_model.specs.Sound.{has_kind}
@@ -178,17 +179,12 @@ steps_on schema bytes run new at next s = step_on schema run.rows run.who bytes 
 
 -- ---- faults
 
--- after a fault no step is taken
-no_more : (b : Bool) → (b && false) ≡ false
-no_more true = refl
-no_more false = refl
-
 -- a fault of reading
 read_fails : (schema : Schema) (start : List RowEntry) (bytes : List ℕ) (run : Run) (at : ℕ) (f : OpFault) → Goes schema start bytes run at → at < length bytes → step_at schema run.rows run.who bytes at ≡ Err f → decoded schema bytes start ≡ Err f
 read_fails schema start bytes run at f g below read =
     let behind = comes_behind schema start bytes run at g (Err f) below read in
     let shut = stands_closed schema start g.p run g.stands in
-    sym behind.2 ∙ (outcome_ended schema bytes start behind.0 (after_step schema g.p (Err f)) (no_more (nat_lt g.p.at (length bytes))) ∙ ap (ended_by (Some f)) shut.ran)
+    sym behind.2 ∙ (outcome_ended schema bytes start behind.0 (after_step schema g.p (Err f)) (and_no (nat_lt g.p.at (length bytes))) ∙ ap (ended_by (Some f)) shut.ran)
 
 -- an item that is missed
 op_misses : (schema : Schema) (start : List RowEntry) (bytes : List ℕ) (run : Run) (at : ℕ) (o : Op) (next : ℕ) (f : OpFault) → Goes schema start bytes run at → at < length bytes →

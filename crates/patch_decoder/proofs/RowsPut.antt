@@ -5,7 +5,7 @@ use Rattle.std.specs.Option.{option_map, option_map_or}
 use Rattle.std.specs.Prelude.{nat_le}
 use Rattle.std.proofs.lemmas.Bool.Decides.{nat_tests}
 use Rattle.lists.specs.Rising.{RisesFrom, find}
-use Rattle.lists.proofs.RisingLaws.{find-put, same_rising, RisesFrom-put}
+use Rattle.lists.proofs.RisingLaws.{find-put, same_rising}
 use Rattle.schema_model.specs.Classes.{Schema}
 use Rattle.state_model.specs.declared.row.Row.{Row}
 use Rattle.state_model.specs.declared.row.Row.TheVariants as row
@@ -14,7 +14,7 @@ use Rattle.state_model.specs.declared.row.MapItem.{MapItem}
 use Rattle.state_model.specs.declared.row.SetItem.{SetItem}
 use Rattle.state_model.specs.Rows.{number_of, row_at, is_live, emptied, kinds_of, put_row}
 use Rattle.state_model.specs.Sound.{has_kind}
-use Rattle.state_laws.proofs.Numbers.{live_at, at_live}
+use Rattle.state_laws.proofs.Numbers.{live_at, at_live, put_rises}
 use Rattle.wire_model.specs.declared.op.OpKey.TheVariants.{Field, Item, Named}
 use Rattle.wire_model.specs.declared.op.Op.{Op}
 use Rattle.wire_model.specs.declared.op.Op.TheVariants as op
@@ -24,8 +24,6 @@ use Rattle.wire_model.specs.Grammar.{resolved}
 use Rattle.wire_model.specs.Resolved.{holder_kind}
 use Rattle.wire_laws.proofs.LinkedRows.{with_carried, row_at-put_row, is_live-put_row}
 use Rattle.wire_laws.proofs.EncodedKnown.{row_at-kinds_of}
-use Rattle.wire_laws.proofs.KindLaws.{emptied_of_kind}
-use Rattle.wire_laws.proofs.NamedNumbers.{emptied_kind}
 use Rattle.wire_ops.specs.Bodies.{put_position, replaced_number}
 use Rattle.wire_ops.specs.PlainEdits.{plain_edit}
 use Rattle.wire_ops.proofs.EffectLaws.{finds_fields, finds_items, finds_slots, finds_elements}
@@ -85,17 +83,9 @@ same_finds schema known holder o (Elements home items) =
 
 -- ---- rows that are put in
 
--- a row without its places has none
-pub emptied_twice : (r : Row) → emptied (emptied r) ≡ emptied r
-emptied_twice r = emptied_of_kind (emptied r) r (emptied_kind r)
-
 -- the row that was put in
 pub row_put : (rows : List RowEntry) (n : ℕ) (r : Row) → row_at (put_row n r rows) n ≡ Some r
 row_put rows n r = let self : (n == n) ≡ true = grind (arith, nat_tests) in row_at-put_row n r rows n ∙ ap (λ b. cond b (Some r) (row_at rows n)) self
-
--- rows rise with one put in
-pub puts_rise : (rows : List RowEntry) (n : ℕ) (r : Row) → RisesFrom number_of 0 rows → RisesFrom number_of 0 (put_row n r rows)
-puts_rise rows n r rises = RisesFrom-put number_of 0 (record { who = n; row = r }) rows rises (omega arith)
 
 -- of two rows put in at a number the last one is left
 pub put_twice : (rows : List RowEntry) (n : ℕ) (a b : Row) → RisesFrom number_of 0 rows → put_row n b (put_row n a rows) ≡ put_row n b rows
@@ -103,7 +93,7 @@ put_twice rows n a b rises =
     let x : RowEntry = record { who = n; row = b } in
     let y : RowEntry = record { who = n; row = a } in
     let twice : (t : Bool) (o : Option RowEntry) → cond t (Some x) (cond t (Some y) o) ≡ cond t (Some x) o = elim [ true ↦ λ o. refl | false ↦ λ o. refl ] in
-    same_rising number_of 0 0 (put_row n b (put_row n a rows)) (put_row n b rows) (puts_rise (put_row n a rows) n b (puts_rise rows n a rises)) (puts_rise rows n b rises)
+    same_rising number_of 0 0 (put_row n b (put_row n a rows)) (put_row n b rows) (put_rises (put_row n a rows) n b (put_rises rows n a rises)) (put_rises rows n b rises)
     (λ k. find-put number_of x (put_row n a rows) k ∙ (ap (λ o. cond (n == k) (Some x) o) (find-put number_of y rows k) ∙ (twice (n == k) (find number_of k rows) ∙ sym (find-put number_of x rows k))))
 
 -- rows put in at two numbers, in either order
@@ -115,7 +105,7 @@ put_swap rows n m a b rises apart =
       | true ↦ elim [ true ↦ λ e f o. let same : n ≡ m = grind (arith, nat_tests) in absurd (grind (arith, nat_tests)) | false ↦ λ e f o. refl ]
       | false ↦ elim [ true ↦ λ e f o. refl | false ↦ λ e f o. refl ]
     ] in
-    same_rising number_of 0 0 (put_row m b (put_row n a rows)) (put_row n a (put_row m b rows)) (puts_rise (put_row n a rows) m b (puts_rise rows n a rises)) (puts_rise (put_row m b rows) n a (puts_rise rows m b rises))
+    same_rising number_of 0 0 (put_row m b (put_row n a rows)) (put_row n a (put_row m b rows)) (put_rises (put_row n a rows) m b (put_rises rows n a rises)) (put_rises (put_row m b rows) n a (put_rises rows m b rises))
     (λ k. find-put number_of x (put_row n a rows) k ∙ (ap (λ o. cond (m == k) (Some x) o) (find-put number_of y rows k) ∙ (swap k (m == k) (n == k) refl refl (find number_of k rows)
     ∙ (ap (λ o. cond (n == k) (Some y) o) (sym (find-put number_of x rows k)) ∙ sym (find-put number_of y (put_row m b rows) k)))))
 

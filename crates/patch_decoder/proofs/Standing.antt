@@ -10,6 +10,7 @@ use Rattle.state_model.specs.declared.row.RowEntry.{RowEntry}
 use Rattle.state_model.specs.Rows.{number_of, row_at, is_live, emptied, kinds_of, put_row}
 use Rattle.state_model.specs.Sound.{has_kind}
 use Rattle.state_laws.proofs.Fitting.{same_declared}
+use Rattle.state_laws.proofs.Numbers.{put_rises}
 use Rattle.wire_model.specs.declared.op.Op.{Op}
 use Rattle.wire_model.specs.Effect.{opened, closed, effect, finds, carried_by, with_named, with_edits, apply_edits}
 use Rattle.wire_model.specs.Grammar.{PlacedEdit, ReadBlock, Progress, did, resolved, known_after}
@@ -18,11 +19,12 @@ use Rattle.wire_model.specs.Resolved.{holder_kind}
 use Rattle.wire_laws.proofs.LinkedRows.{with_carried, named_rises}
 use Rattle.wire_laws.proofs.EncodedKnown.{row_at-kinds_of}
 use Rattle.wire_laws.proofs.EditedForm.{edited_kind}
+use Rattle.wire_laws.proofs.Keeping.{emptied_twice}
 use Rattle.wire_ops.proofs.EffectLaws.{same_effect}
 use Rattle.canon_patch.proofs.Applying.{put_kind, link_known}
 use Rattle.patch_decoder.specs.declared.run.Run.{Run}
 use Rattle.patch_decoder.specs.Runs.{closed_rows, Opens, Does}
-use Rattle.patch_decoder.proofs.RowsPut.{same_finds, emptied_twice, row_put, puts_rise, put_twice, carried_put, HasKinds, kinds_put, live_put, kinds_carried, live_carried}
+use Rattle.patch_decoder.proofs.RowsPut.{same_finds, row_put, put_twice, carried_put, HasKinds, kinds_put, live_put, kinds_carried, live_carried}
 use Rattle.patch_decoder.proofs.LinkKinds.{Brings}
 use Rattle.patch_decoder.proofs.Running.{bare, after_edits, bodies_more, named_more, missed_found, carried_keeps, run_of, run_last}
 
@@ -131,7 +133,7 @@ pub record Closes (schema : Schema) (start : List RowEntry) (p : Progress) (run 
 
 -- the rows of a run rise
 pub run_rises : (schema : Schema) (start : List RowEntry) (p : Progress) (run : Run) → Stands schema start p run → RisesFrom number_of 0 run.rows
-run_rises schema start p run s = subst (RisesFrom number_of 0) (sym s.rows) (puts_rise (named_in p s.all) run.who (emptied s.row) (named_rises (bare p.block.edits) s.all s.rises))
+run_rises schema start p run s = subst (RisesFrom number_of 0) (sym s.rows) (put_rises (named_in p s.all) run.who (emptied s.row) (named_rises (bare p.block.edits) s.all s.rises))
 
 -- the open row closed
 pub stands_closed : (schema : Schema) (start : List RowEntry) (p : Progress) (run : Run) → Stands schema start p run → Closes schema start p run
@@ -152,7 +154,7 @@ stands_closed schema start p run s =
     same_declared schema (closed run.holder) run.kind (kind ∙ (sym (emptied_twice s.row) ∙ ap emptied (sym s.kind))) ∙ s.kinds run.who run.kind known_open in
     record {
       ran = run_last p start s.all s.done ∙ (ap (λ o. run_or_miss o (Ok (apply_edits (edits_of p.block ∷ []) s.all))) none ∙ ap Ok (applied ∙ sym shut));
-      rises = puts_rise run.rows run.who (closed run.holder) rise;
+      rises = put_rises run.rows run.who (closed run.holder) rise;
       known = s.known ∙ sym (put_kind run.rows run.who run.kind (closed run.holder) rise known_open (kind ∙ (sym (emptied_twice s.row) ∙ ap emptied (sym s.kind))));
       kinds = kinds_put schema run.rows run.who (closed run.holder) s.kinds fits;
       root = live_put run.rows run.who 0 (closed run.holder) s.root;

@@ -15,7 +15,8 @@ read_as : (schema : Schema) (run : Run) (bytes : List ℕ) (at : ℕ) (s : Step)
 read_as schema run bytes at s o next read is = read ∙ ap (λ s. Ok (s, next)) is
 
 -- a step that was read and not done fails as its operation does
-pub step_missed : (schema : Schema) (bytes : List ℕ) (run new : Run) (at : ℕ) (s : Step) (next : ℕ) (f : OpFault) → step_at schema run.rows run.who bytes at ≡ Ok (s, next) → TakesStep schema s (at + 1) run new (Err f) → Steps schema bytes at run new (Err f)
+pub step_missed : (schema : Schema) (bytes : List ℕ) (run new : Run) (at : ℕ) (s : Step) (next : ℕ) (f : OpFault) → step_at schema run.rows run.who bytes at ≡ Ok (s, next)
+    → TakesStep schema s (at + 1) run new (Err f) → Steps schema bytes at run new (Err f)
 step_missed schema bytes run new at s next Memory read t = tt
 step_missed schema bytes run new at s next (Scalar x) read t = inr (t.0, next, read_as schema run bytes at s t.0 next read t.1, t.2, t.3)
 step_missed schema bytes run new at s next (UnknownRef x) read t = inr (t.0, next, read_as schema run bytes at s t.0 next read t.1, t.2, t.3)

@@ -29,13 +29,15 @@ still_held some now n rise within h =
     ] in
     go (n == 0) refl
 
-rounds_greatest : (k : ℕ) (some now : List RowEntry) → RisesFrom number_of 0 some → ((n : ℕ) (r : Row) → row_at some n ≡ Some r → (n == 0 || is_among n (all_held some)) ≡ true) → ((n : ℕ) (r : Row) → row_at some n ≡ Some r → row_at now n ≡ Some r) → (n : ℕ) (r : Row) → row_at some n ≡ Some r → row_at (times k swept_once now) n ≡ Some r
+rounds_greatest : (k : ℕ) (some now : List RowEntry) → RisesFrom number_of 0 some → ((n : ℕ) (r : Row) → row_at some n ≡ Some r → (n == 0 || is_among n (all_held some)) ≡ true)
+    → ((n : ℕ) (r : Row) → row_at some n ≡ Some r → row_at now n ≡ Some r) → (n : ℕ) (r : Row) → row_at some n ≡ Some r → row_at (times k swept_once now) n ≡ Some r
 rounds_greatest zero some now rise held within n r s = within n r s
 rounds_greatest (suc k) some now rise held within n r s =
     rounds_greatest k some (swept_once now) rise held (λ m q t. swept_keeps now m q (within m q t) (still_held some now m rise within (held m q t))) n r s
 
 -- rows of which each but 0 is held by one of them are left
-pub freed_greatest : (some rows : List RowEntry) → RisesFrom number_of 0 some → ((n : ℕ) (r : Row) → row_at some n ≡ Some r → (n == 0 || is_among n (all_held some)) ≡ true) → ((n : ℕ) (r : Row) → row_at some n ≡ Some r → row_at rows n ≡ Some r) → (n : ℕ) (r : Row) → row_at some n ≡ Some r → row_at (freed rows) n ≡ Some r
+pub freed_greatest : (some rows : List RowEntry) → RisesFrom number_of 0 some → ((n : ℕ) (r : Row) → row_at some n ≡ Some r → (n == 0 || is_among n (all_held some)) ≡ true)
+    → ((n : ℕ) (r : Row) → row_at some n ≡ Some r → row_at rows n ≡ Some r) → (n : ℕ) (r : Row) → row_at some n ≡ Some r → row_at (freed rows) n ≡ Some r
 freed_greatest some rows rise held within n r s = rounds_greatest (length rows) some rows rise held within n r s
 
 -- counts
@@ -72,7 +74,8 @@ none_behind : (e : RowEntry) (rows : List RowEntry) (n : ℕ) → RisesFrom numb
 none_behind e rows n r h = live_found rows n ∙ ap is_some (find_below number_of (suc e.who) rows n r (omega arith))
 
 -- without a number that was left, what its row holds is held so much less
-counts_without : (low : ℕ) (rows : List RowEntry) (left : List ℕ) (n k : ℕ) → RisesFrom number_of low rows → is_among n left ≡ true → count_of k (all_held (rows_of left rows)) ≡ count_of k (held_at rows n) + count_of k (all_held (rows_of (remove (λ m. m) n left) rows))
+counts_without : (low : ℕ) (rows : List RowEntry) (left : List ℕ) (n k : ℕ) → RisesFrom number_of low rows → is_among n left ≡ true
+    → count_of k (all_held (rows_of left rows)) ≡ count_of k (held_at rows n) + count_of k (all_held (rows_of (remove (λ m. m) n left) rows))
 counts_without low [] left n k r h = refl
 counts_without low (e ∷ rows) left n k r h =
     let before = kept_count k left e rows in
@@ -85,13 +88,16 @@ counts_without low (e ∷ rows) left n k r h =
           let outside : is_among e.who (remove (λ m. m) n left) ≡ false = grind (arith, nat_tests) in
           let held : count_of k (held_at (e ∷ rows) n) ≡ count_of k (held_in e.row) = ap (count_of k) (held_first e rows n same) in
           let rest : count_of k (all_held (rows_of (remove (λ m. m) n left) rows)) ≡ count_of k (all_held (rows_of left rows)) = ap (λ rs. count_of k (all_held rs)) (rows_without rows left n (none_behind e rows n r.1 same)) in
-          let was : count_of k (all_held (rows_of left (e ∷ rows))) ≡ count_of k (held_in e.row) + count_of k (all_held (rows_of left rows)) = before ∙ ap (λ b. cond b (count_of k (held_in e.row)) 0 + count_of k (all_held (rows_of left rows))) inside in
-          let is : count_of k (all_held (rows_of (remove (λ m. m) n left) (e ∷ rows))) ≡ 0 + count_of k (all_held (rows_of (remove (λ m. m) n left) rows)) = after ∙ ap (λ b. cond b (count_of k (held_in e.row)) 0 + count_of k (all_held (rows_of (remove (λ m. m) n left) rows))) outside in
+          let was : count_of k (all_held (rows_of left (e ∷ rows))) ≡ count_of k (held_in e.row) + count_of k (all_held (rows_of left rows)) = before
+          ∙ ap (λ b. cond b (count_of k (held_in e.row)) 0 + count_of k (all_held (rows_of left rows))) inside in
+          let is : count_of k (all_held (rows_of (remove (λ m. m) n left) (e ∷ rows))) ≡ 0 + count_of k (all_held (rows_of (remove (λ m. m) n left) rows)) = after
+          ∙ ap (λ b. cond b (count_of k (held_in e.row)) 0 + count_of k (all_held (rows_of (remove (λ m. m) n left) rows))) outside in
           omega (arith, was, is, held, rest)
       | false ↦ λ f.
           let as_before : is_among e.who (remove (λ m. m) n left) ≡ is_among e.who left = grind (arith, nat_tests) in
           let held : count_of k (held_at (e ∷ rows) n) ≡ count_of k (held_at rows n) = ap (λ o. count_of k (option_map_or held_in o [])) (row_behind e rows n f) in
-          let kept : count_of k (all_held (rows_of (remove (λ m. m) n left) (e ∷ rows))) ≡ cond (is_among e.who left) (count_of k (held_in e.row)) 0 + count_of k (all_held (rows_of (remove (λ m. m) n left) rows)) = after ∙ ap (λ b. cond b (count_of k (held_in e.row)) 0 + count_of k (all_held (rows_of (remove (λ m. m) n left) rows))) as_before in
+          let kept : count_of k (all_held (rows_of (remove (λ m. m) n left) (e ∷ rows))) ≡ cond (is_among e.who left) (count_of k (held_in e.row)) 0 + count_of k (all_held (rows_of (remove (λ m. m) n left) rows)) =
+          after ∙ ap (λ b. cond b (count_of k (held_in e.row)) 0 + count_of k (all_held (rows_of (remove (λ m. m) n left) rows))) as_before in
           omega (arith, before, kept, held, counts_without (suc e.who) rows left n k r.1 h)
     ] in
     go (e.who == n) refl
@@ -149,7 +155,8 @@ taken_goes rows left waiting counts n r rise f t s =
       | inr p ↦ let none : counted counts n ≡ 0 = grind (arith, nat_tests) in held_by_left rows left p.0 n p.1 (f.keeps p.0 p.1 p.2) (freed_within rows p.0 p.1 rise p.2) p.3 (sym (f.count n) ∙ none)
     ]
 
-keeps_on : (rows : List RowEntry) (left waiting : List ℕ) (counts : List (ℕ × ℕ)) (n k : ℕ) (r : Row) → RisesFrom number_of 0 rows → Freeing rows left waiting counts → is_taken counts left n ≡ true → row_at (freed rows) k ≡ Some r → is_among k (remove (λ m. m) n left) ≡ true
+keeps_on : (rows : List RowEntry) (left waiting : List ℕ) (counts : List (ℕ × ℕ)) (n k : ℕ) (r : Row) → RisesFrom number_of 0 rows → Freeing rows left waiting counts
+    → is_taken counts left n ≡ true → row_at (freed rows) k ≡ Some r → is_among k (remove (λ m. m) n left) ≡ true
 keeps_on rows left waiting counts n k r rise f t s =
     let kept : is_among k left ≡ true = f.keeps k r s in
     let go : (b : Bool) → n == k ≡ b → is_among k (remove (λ m. m) n left) ≡ true = elim [
@@ -163,10 +170,12 @@ waits_still old now more n k e f h =
     let split : is_among k old ≡ (is_among k now || is_among k (n ∷ [])) = ap (λ ns. is_among k ns) e ∙ among_both now (n ∷ []) k in
     grind (arith, nat_tests, among_both now more k)
 
-count_on : (rows : List RowEntry) (left waiting : List ℕ) (counts lowered : List (ℕ × ℕ)) (n k : ℕ) → RisesFrom number_of 0 rows → Freeing rows left waiting counts → is_among n left ≡ true → counted lowered k ≡ counted counts k - count_of k (held_at rows n) → counted lowered k ≡ count_of k (all_held (rows_of (remove (λ m. m) n left) rows))
+count_on : (rows : List RowEntry) (left waiting : List ℕ) (counts lowered : List (ℕ × ℕ)) (n k : ℕ) → RisesFrom number_of 0 rows → Freeing rows left waiting counts → is_among n left ≡ true
+    → counted lowered k ≡ counted counts k - count_of k (held_at rows n) → counted lowered k ≡ count_of k (all_held (rows_of (remove (λ m. m) n left) rows))
 count_on rows left waiting counts lowered n k rise f h c = omega (arith, c, f.count k, counts_without 0 rows left n k rise h)
 
-cover_on : (rows : List RowEntry) (left old now : List ℕ) (counts lowered : List (ℕ × ℕ)) (n k : ℕ) (r : Row) → Freeing rows left old counts → old ≡ now ++ n ∷ [] → counted lowered k ≡ counted counts k - count_of k (held_at rows n) → row_at (rows_of (remove (λ m. m) n left) rows) k ≡ Some r → (k == 0) ≡ false → counted lowered k ≡ 0 → is_among k (now ++ held_at rows n) ≡ true
+cover_on : (rows : List RowEntry) (left old now : List ℕ) (counts lowered : List (ℕ × ℕ)) (n k : ℕ) (r : Row) → Freeing rows left old counts → old ≡ now ++ n ∷ []
+    → counted lowered k ≡ counted counts k - count_of k (held_at rows n) → row_at (rows_of (remove (λ m. m) n left) rows) k ≡ Some r → (k == 0) ≡ false → counted lowered k ≡ 0 → is_among k (now ++ held_at rows n) ≡ true
 cover_on rows left old now counts lowered n k r f e c s g z =
     let at = left_row rows (remove (λ m. m) n left) k r s in
     let apart : (n == k) ≡ false = grind (arith, nat_tests, among_removed left n k) in
@@ -177,7 +186,8 @@ cover_on rows left old now counts lowered n k r f e c s g z =
     ] in
     go (counted counts k == 0) refl
 
-pub freeing_on : (rows : List RowEntry) (left old now : List ℕ) (counts lowered : List (ℕ × ℕ)) (n : ℕ) → RisesFrom number_of 0 rows → Freeing rows left old counts → old ≡ now ++ n ∷ [] → is_taken counts left n ≡ true → ((k : ℕ) → counted lowered k ≡ counted counts k - count_of k (held_at rows n)) → Freeing rows (remove (λ m. m) n left) (now ++ held_at rows n) lowered
+pub freeing_on : (rows : List RowEntry) (left old now : List ℕ) (counts lowered : List (ℕ × ℕ)) (n : ℕ) → RisesFrom number_of 0 rows → Freeing rows left old counts → old ≡ now ++ n ∷ []
+    → is_taken counts left n ≡ true → ((k : ℕ) → counted lowered k ≡ counted counts k - count_of k (held_at rows n)) → Freeing rows (remove (λ m. m) n left) (now ++ held_at rows n) lowered
 freeing_on rows left old now counts lowered n rise f e t c =
     let inside : is_among n left ≡ true = grind (arith, nat_tests) in
     record {
@@ -186,7 +196,8 @@ freeing_on rows left old now counts lowered n rise f e t c =
       keeps = λ k r s. keeps_on rows left old counts n k r rise f t s;
     }
 
-cover_past : (rows : List RowEntry) (left old now : List ℕ) (counts : List (ℕ × ℕ)) (n k : ℕ) (r : Row) → Freeing rows left old counts → old ≡ now ++ n ∷ [] → is_taken counts left n ≡ false → row_at (rows_of left rows) k ≡ Some r → (k == 0) ≡ false → counted counts k ≡ 0 → is_among k now ≡ true
+cover_past : (rows : List RowEntry) (left old now : List ℕ) (counts : List (ℕ × ℕ)) (n k : ℕ) (r : Row) → Freeing rows left old counts → old ≡ now ++ n ∷ [] → is_taken counts left n ≡ false
+    → row_at (rows_of left rows) k ≡ Some r → (k == 0) ≡ false → counted counts k ≡ 0 → is_among k now ≡ true
 cover_past rows left old now counts n k r f e t s g z =
     let at = left_row rows left k r s in
     let waits : is_among k old ≡ true = f.cover k r s g z in
@@ -218,7 +229,8 @@ held_at_end rows left counts k r f s =
 
 left_is_freed : (rows : List RowEntry) (left : List ℕ) (counts : List (ℕ × ℕ)) (k : ℕ) → RisesFrom number_of 0 rows → Freeing rows left [] counts → row_at (rows_of left rows) k ≡ row_at (freed rows) k
 left_is_freed rows left counts k rise f =
-    let stays : (r : Row) → row_at (rows_of left rows) k ≡ Some r → row_at (freed rows) k ≡ Some r = λ r s. freed_greatest (rows_of left rows) rows (left_rises rows left rise) (λ m q t. held_at_end rows left counts m q f t) (λ m q t. (left_row rows left m q t).1) k r s in
+    let stays : (r : Row) → row_at (rows_of left rows) k ≡ Some r → row_at (freed rows) k ≡ Some r =
+    λ r s. freed_greatest (rows_of left rows) rows (left_rises rows left rise) (λ m q t. held_at_end rows left counts m q f t) (λ m q t. (left_row rows left m q t).1) k r s in
     let go : (o : Option Row) → row_at (freed rows) k ≡ o → row_at (rows_of left rows) k ≡ o = elim [
       | Some r ↦ λ s. row_kept rows left k r (f.keeps k r s) (freed_within rows k r rise s)
       | None ↦ λ s.
@@ -237,7 +249,8 @@ freeing_end rows left waiting counts rise f e =
     same_rising number_of 0 0 (rows_of left rows) (freed rows) (left_rises rows left rise) (freed_rises rows rise) (λ k. found_same (rows_of left rows) (freed rows) k (left_is_freed rows left counts k rise last))
 
 -- a turn at a number that is taken leaves less to do
-pub less_taken : (rows : List RowEntry) (left old now : List ℕ) (n : ℕ) → old ≡ now ++ n ∷ [] → is_among n left ≡ true → length (now ++ held_at rows n) + links_where (λ k. is_among k (remove (λ m. m) n left)) rows < length old + links_where (λ k. is_among k left) rows
+pub less_taken : (rows : List RowEntry) (left old now : List ℕ) (n : ℕ) → old ≡ now ++ n ∷ [] → is_among n left ≡ true
+    → length (now ++ held_at rows n) + links_where (λ k. is_among k (remove (λ m. m) n left)) rows < length old + links_where (λ k. is_among k left) rows
 less_taken rows left old now n e h =
     let less = links_fewer (λ k. is_among k (remove (λ m. m) n left)) (λ k. is_among k left) rows n (λ k t. grind (arith, nat_tests, among_removed left n k)) h (grind (arith, nat_tests, among_removed left n n)) in
     omega (arith, less, length-append now (held_at rows n), length-append now (n ∷ []), ap length e)

@@ -1,8 +1,8 @@
-pub mod Lists
-pub mod NumberSets
-pub mod Walks
-pub mod MemberKeys
-pub mod KeptItems
-pub mod ViewTables
 pub mod Freeing
 pub mod HeldRows
+pub mod KeptItems
+pub mod Lists
+pub mod MemberKeys
+pub mod NumberSets
+pub mod ViewTables
+pub mod Walks

@@ -117,7 +117,8 @@ field_seen xs ys h who v (Some d) = same_field xs ys h who d.field.shape v d.fie
 shows_same : (s : Schema) (xs ys : List Pair) → SameMembers xs ys → (who class : ℕ) (f : FieldValue) → view_shows (view_fields s) xs who class f ≡ shows_field s ys who class f
 shows_same s xs ys h who class f = ap (view_shows_field xs who f.value) (seen_at s class f.field) ∙ field_seen xs ys h who f.value (slice_get (fields_of s class) f.field)
 
-item_at_home : (xs ys : List Pair) → SameMembers xs ys → (who class : ℕ) (v : Value) (o : Option Declared) → view_shows_item xs who (option_and_then (declared_by class) (option_map view_field o)) v ≡ declared_item_shown ys who v (option_and_then (own_field class) o)
+item_at_home : (xs ys : List Pair) → SameMembers xs ys → (who class : ℕ) (v : Value) (o : Option Declared)
+    → view_shows_item xs who (option_and_then (declared_by class) (option_map view_field o)) v ≡ declared_item_shown ys who v (option_and_then (own_field class) o)
 item_at_home xs ys h who class v None = refl
 item_at_home xs ys h who class v (Some d) =
     elim (d.class == class) as (λ b. view_shows_item xs who (cond b (Some (view_field d)) None) v ≡ declared_item_shown ys who v (cond b (Some d.field) None)) [ true ↦ same_item xs ys h who (item_of d.field.shape) v d.field.tag | false ↦ refl ]
@@ -128,9 +129,11 @@ item_same s xs ys h who home v =
 
 row_same : (s : Schema) (xs ys : List Pair) → SameMembers xs ys → (who : ℕ) (r : Row) → view_row (view_fields s) xs who r ≡ shown_row s ys who r
 row_same s xs ys h who (Struct class fields) = ap (Struct class) (filter_agree (view_shows (view_fields s) xs who class) (shows_field s ys who class) (shows_same s xs ys h who class) fields)
-row_same s xs ys h who (Map home items) = ap (Map home) (filter_agree (λ (i : MapItem). view_shows_item xs who (home_view_field (view_fields s) home) i.value) (λ (i : MapItem). shows_item s ys who home i.value) (λ i. item_same s xs ys h who home i.value) items)
+row_same s xs ys h who (Map home items) = ap (Map home) (filter_agree (λ (i : MapItem). view_shows_item xs who (home_view_field (view_fields s) home) i.value)
+    (λ (i : MapItem). shows_item s ys who home i.value) (λ i. item_same s xs ys h who home i.value) items)
 row_same s xs ys h who (Array home values) = ap (Array home) (filter_agree (view_shows_item xs who (home_view_field (view_fields s) home)) (shows_item s ys who home) (item_same s xs ys h who home) values)
-row_same s xs ys h who (Set home items) = ap (Set home) (filter_agree (λ (i : SetItem). view_shows_item xs who (home_view_field (view_fields s) home) i.value) (λ (i : SetItem). shows_item s ys who home i.value) (λ i. item_same s xs ys h who home i.value) items)
+row_same s xs ys h who (Set home items) = ap (Set home) (filter_agree (λ (i : SetItem). view_shows_item xs who (home_view_field (view_fields s) home) i.value)
+    (λ (i : SetItem). shows_item s ys who home i.value) (λ i. item_same s xs ys h who home i.value) items)
 
 -- a row with its number
 abbrev entry : ℕ → Row → RowEntry

@@ -5,13 +5,13 @@ use Rattle.std.proofs.lemmas.Bool.Decides.{nat_tests}
 use Rattle.std.proofs.lemmas.List.Sums.{sum_by-cons}
 use Rattle.lists.specs.Rising.{RisesFrom, find}
 use Rattle.lists.proofs.RisingLaws.{RisesFrom-put, put_found, same_rising}
+use Rattle.lists.proofs.Tests.{both_ways, either_case}
 use Rattle.state_model.specs.declared.row.Row.{Row}
 use Rattle.state_model.specs.declared.row.RowEntry.{RowEntry}
 use Rattle.state_model.specs.Rows.{number_of, row_at, held_in}
 use Rattle.state_model.specs.Reached.{is_among, with_number, reached}
 use Rattle.state_laws.proofs.Numbers.{among_with_number, among_both, keep_same}
 use Rattle.state_laws.proofs.ReachedLaws.{reached_start, reached_closed, reached_least, reached_rises}
-use Rattle.state_laws.proofs.Tests.{both_ways}
 use Rattle.plain_rows.specs.Links.{held_at, links_where}
 
 -- the sizes of the items whose keys pass
@@ -82,12 +82,8 @@ among_more seen old now more n k e =
     let split : is_among k old ≡ (is_among k now || is_among k (n ∷ [])) = ap (λ ns. is_among k ns) e ∙ among_both now (n ∷ []) k in
     grind (arith, nat_tests, among_both now more k, among_with_number seen n k)
 
-either_case : {P : Type 0} (a b : Bool) → (a || b) ≡ true → (a ≡ true → P) → (b ≡ true → P) → P
-either_case true b h f g = f refl
-either_case false b h f g = g h
-
 -- what the row of a number holds
-held_row : (rows : List RowEntry) (n b : ℕ) → is_among b (held_at rows n) ≡ true → (r : Row) × (row_at rows n ≡ Some r) × (is_among b (held_in r) ≡ true)
+pub held_row : (rows : List RowEntry) (n b : ℕ) → is_among b (held_at rows n) ≡ true → (r : Row) × (row_at rows n ≡ Some r) × (is_among b (held_in r) ≡ true)
 held_row rows n b h =
     let go : (o : Option Row) → row_at rows n ≡ o → (r : Row) × (row_at rows n ≡ Some r) × (is_among b (held_in r) ≡ true) = elim [
       | Some r ↦ λ s. (r, s, sym (ap (λ o. is_among b (option_map_or held_in o [])) s) ∙ h)
@@ -103,11 +99,14 @@ last_waits seen old now n e =
     let split : is_among n old ≡ (is_among n now || is_among n (n ∷ [])) = ap (λ ns. is_among n ns) e ∙ among_both now (n ∷ []) n in
     grind (arith, nat_tests)
 
-walk_within : (rows : List RowEntry) (from : ℕ) (seen old now : List ℕ) (n k : ℕ) → RisesFrom number_of 0 rows → Walked rows from seen old → old ≡ now ++ n ∷ [] → (is_among k (with_number seen n) || is_among k (now ++ held_at rows n)) ≡ true → is_among k (reached rows from) ≡ true
+walk_within : (rows : List RowEntry) (from : ℕ) (seen old now : List ℕ) (n k : ℕ) → RisesFrom number_of 0 rows → Walked rows from seen old → old ≡ now ++ n ∷ []
+    → (is_among k (with_number seen n) || is_among k (now ++ held_at rows n)) ≡ true → is_among k (reached rows from) ≡ true
 walk_within rows from seen old now n k rise w e h =
-    either_case (is_among k seen || is_among k old) (is_among k (held_at rows n)) (sym (among_more seen old now (held_at rows n) n k e) ∙ h) (λ t. w.within k t) (λ t. let p = held_row rows n k t in reached_closed rows from n k p.0 rise (w.within n (last_waits seen old now n e)) p.1 p.2)
+    either_case (is_among k seen || is_among k old) (is_among k (held_at rows n)) (sym (among_more seen old now (held_at rows n) n k e) ∙ h) (λ t. w.within k t)
+    (λ t. let p = held_row rows n k t in reached_closed rows from n k p.0 rise (w.within n (last_waits seen old now n e)) p.1 p.2)
 
-walk_closed : (rows : List RowEntry) (from : ℕ) (seen old now : List ℕ) (n a b : ℕ) (r : Row) → Walked rows from seen old → old ≡ now ++ n ∷ [] → is_among a (with_number seen n) ≡ true → row_at rows a ≡ Some r → is_among b (held_in r) ≡ true → ((is_among b seen || is_among b old) || is_among b (held_at rows n)) ≡ true
+walk_closed : (rows : List RowEntry) (from : ℕ) (seen old now : List ℕ) (n a b : ℕ) (r : Row) → Walked rows from seen old → old ≡ now ++ n ∷ [] → is_among a (with_number seen n) ≡ true
+    → row_at rows a ≡ Some r → is_among b (held_in r) ≡ true → ((is_among b seen || is_among b old) || is_among b (held_at rows n)) ≡ true
 walk_closed rows from seen old now n a b r w e h s t =
     either_case (n == a) (is_among a seen) (sym (among_with_number seen n a) ∙ h)
     (λ same. let is : n ≡ a = grind (arith, nat_tests) in let there : is_among b (held_at rows n) ≡ true = ap (λ k. is_among b (held_at rows k)) is ∙ ap (λ ns. is_among b ns) (row_held rows a r s) ∙ t in grind (arith, nat_tests))
@@ -135,20 +134,25 @@ nothing_waits seen k h = grind (arith, nat_tests)
 -- at the end all that is reached is seen
 pub walk_end : (rows : List RowEntry) (from : ℕ) (seen waiting : List ℕ) → RisesFrom number_of 0 rows → Walked rows from seen waiting → waiting ≡ [] → seen ≡ reached rows from
 walk_end rows from seen waiting rise w e =
-    same_numbers seen (reached rows from) w.rises (reached_rises rows from) (λ k. both_ways (is_among k seen) (is_among k (reached rows from)) (λ h. w.within k (ap (λ b. b || is_among k waiting) h)) (λ h. reached_least rows from (λ m. is_among m seen) rise (nothing_waits seen from (rw e at w.start)) (λ a b r h s t. nothing_waits seen b (rw e at (w.closed a b r h s t))) k h))
+    same_numbers seen (reached rows from) w.rises (reached_rises rows from)
+    (λ k. both_ways (is_among k seen) (is_among k (reached rows from)) (λ h. w.within k (ap (λ b. b || is_among k waiting) h))
+    (λ h. reached_least rows from (λ m. is_among m seen) rise (nothing_waits seen from (rw e at w.start)) (λ a b r h s t. nothing_waits seen b (rw e at (w.closed a b r h s t))) k h))
 
 -- a number that is there needs no place
 pub with_same : (ns : List ℕ) (n : ℕ) → RisesFrom (λ m. m) 0 ns → is_among n ns ≡ true → with_number ns n ≡ ns
 with_same ns n r h = put_found (λ m. m) 0 n ns r (found_number ns n ∙ ap (λ b. cond b (Some n) None) h)
 
 -- a turn at a new number leaves less to do
-pub less_on : (rows : List RowEntry) (seen old now : List ℕ) (n : ℕ) → old ≡ now ++ n ∷ [] → is_among n seen ≡ false → length (now ++ held_at rows n) + links_where (λ k. not (is_among k (with_number seen n))) rows < length old + links_where (λ k. not (is_among k seen)) rows
+pub less_on : (rows : List RowEntry) (seen old now : List ℕ) (n : ℕ) → old ≡ now ++ n ∷ [] → is_among n seen ≡ false
+    → length (now ++ held_at rows n) + links_where (λ k. not (is_among k (with_number seen n))) rows < length old + links_where (λ k. not (is_among k seen)) rows
 less_on rows seen old now n e h =
-    let less = links_fewer (λ k. not (is_among k (with_number seen n))) (λ k. not (is_among k seen)) rows n (λ k t. grind (arith, nat_tests, among_with_number seen n k)) (grind (arith, nat_tests)) (grind (arith, nat_tests, among_with_number seen n n)) in
+    let less = links_fewer (λ k. not (is_among k (with_number seen n))) (λ k. not (is_among k seen)) rows n (λ k t. grind (arith, nat_tests, among_with_number seen n k))
+    (grind (arith, nat_tests)) (grind (arith, nat_tests, among_with_number seen n n)) in
     omega (arith, less, length-append now (held_at rows n), length-append now (n ∷ []), ap length e)
 
 -- and so does one at a number that was seen
-pub less_again : (rows : List RowEntry) (seen old now : List ℕ) (n : ℕ) → RisesFrom (λ m. m) 0 seen → old ≡ now ++ n ∷ [] → is_among n seen ≡ true → length now + links_where (λ k. not (is_among k (with_number seen n))) rows < length old + links_where (λ k. not (is_among k seen)) rows
+pub less_again : (rows : List RowEntry) (seen old now : List ℕ) (n : ℕ) → RisesFrom (λ m. m) 0 seen → old ≡ now ++ n ∷ [] → is_among n seen ≡ true
+    → length now + links_where (λ k. not (is_among k (with_number seen n))) rows < length old + links_where (λ k. not (is_among k seen)) rows
 less_again rows seen old now n r e h = rw (with_same seen n r h) (omega (arith, length-append now (n ∷ []), ap length e))
 
 pub walk_again : (rows : List RowEntry) (from : ℕ) (seen old now : List ℕ) (n : ℕ) → Walked rows from seen old → old ≡ now ++ n ∷ [] → is_among n seen ≡ true → Walked rows from (with_number seen n) now

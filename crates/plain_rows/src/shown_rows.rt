@@ -9,7 +9,7 @@ use crate::field_table::{field_at, home_view_field, view_fields};
 use crate::members::Members;
 use crate::shown::{shows_field, shows_item};
 use crate::view_fields::{ViewField, ViewFields};
-use lists::{Rising, Seq};
+use lists::{Copied, Rising, Seq};
 use schema_model::{Memory, Pair, RefNum, Schema, TypeNum};
 use state_model::{FieldValues, MapItems, Row, RowEntry, Rows, SetItems, Values};
 use std::alloc::Global;

@@ -6,11 +6,11 @@ use Rattle.std.proofs.lemmas.Option.{get_or_from_slice_get}
 use Rattle.std.specs.List.{find}
 use Rattle.std.specs.Str.{bytes_eq}
 use Rattle.lists.proofs.SameBytes.{same_bytes, bytes_eq_self}
+use Rattle.lists.proofs.Options.{none_there, same_some}
 use Rattle.room_model.specs.declared.seat.SeatEntry.{SeatEntry}
 use Rattle.room_model.specs.Sessions.{Session, session_of, change_session, sessions_but}
 use Rattle.room_laws.specs.Placed.{AreDistinct, entry_tells}
 use Rattle.room_laws.proofs.AlikeLists.{Alike, first_alike, rest_alike}
-use Rattle.room_laws.proofs.SessionLists.{nobody}
 use Rattle.seat_ledger.specs.Calls.{StandsAt}
 use Rattle.room_core.specs.declared.client.Client.{Client}
 use Rattle.room_core.specs.Clients.{IsClientOf, IsClientAt, TellTheSame, client_tells}
@@ -19,9 +19,6 @@ use Rattle.room_core.specs.Values.{session_of_client}
 -- the sessions of clients
 abbrev pub sessions : List Client → List Session
 sessions cs = map session_of_client cs
-
-pub some_same : {X : Type 0} (x y : X) → Some x ≡ Some y → x ≡ y
-some_same x y e = cc
 
 -- ---- names that are not there
 
@@ -50,7 +47,7 @@ module _ (id : List ℕ) where
   pub named_there : (cs : List Client) (at : ℕ) (c : Client) → AreDistinct (sessions cs) → slice_get cs at ≡ Some c → c.id ≡ id → session_of (sessions cs) id ≡ Some (session_of_client c)
   named_there [] at c distinct there name = absurd (cc)
   named_there (x ∷ xs) zero c distinct there name =
-      let same : x ≡ c = some_same x c there in
+      let same : x ≡ c = same_some x c there in
       let own : bytes_eq x.id id ≡ true = ap (λ (y : Client). bytes_eq y.id id) same ∙ (ap (λ n. bytes_eq n id) name ∙ bytes_eq_self id) in
       ap (λ b. cond b (Some (session_of_client x)) (session_of (sessions xs) id)) own ∙ ap (λ (y : Client). Some (session_of_client y)) same
   named_there (x ∷ xs) (suc n) c distinct there name =
@@ -72,7 +69,7 @@ module _ (id : List ℕ) where
   -- the first one has its name, and the others don't
   first_own : (x : Client) (xs : List Client) (c : Client) → AreDistinct (sessions (x ∷ xs)) → Some x ≡ Some c → c.id ≡ id → (bytes_eq x.id id ≡ true) × (session_of (sessions xs) id ≡ None)
   first_own x xs c distinct there name =
-      let same : x.id ≡ id = ap (λ (y : Client). y.id) (some_same x c there) ∙ name in
+      let same : x.id ≡ id = ap (λ (y : Client). y.id) (same_some x c there) ∙ name in
       (ap (λ n. bytes_eq n id) same ∙ bytes_eq_self id, subst (λ n. session_of (sessions xs) n ≡ None) same distinct.0)
 
   -- where it changes its session does
@@ -82,7 +79,7 @@ module _ (id : List ℕ) where
   changed_there g (x ∷ xs) zero c d distinct there name is =
       let own = first_own x xs c distinct there name in
       let head : session_of_client d ≡ cond (bytes_eq x.id id) (g (session_of_client x)) (session_of_client x) =
-      is ∙ (ap (λ (y : Client). g (session_of_client y)) (sym (some_same x c there)) ∙ sym (ap (λ b. cond b (g (session_of_client x)) (session_of_client x)) own.0)) in
+      is ∙ (ap (λ (y : Client). g (session_of_client y)) (sym (same_some x c there)) ∙ sym (ap (λ b. cond b (g (session_of_client x)) (session_of_client x)) own.0)) in
       ap (λ s. s ∷ sessions xs) head ∙ ap (λ ss. cond (bytes_eq x.id id) (g (session_of_client x)) (session_of_client x) ∷ ss) (sym (none_changed id g (sessions xs) own.1))
   changed_there g (x ∷ xs) (suc n) c d distinct there name is =
       let other = before x xs n c distinct there name in
@@ -118,7 +115,7 @@ set_same cs at c there = ap (set cs at) (sym (get_or_from_slice_get cs at c c th
 -- what is read off all, where one changes of which the same is read
 pub same_set : {X : Type 0} (f : Client → X) (cs : List Client) (at : ℕ) (c d : Client) → slice_get cs at ≡ Some c → f d ≡ f c → map f (set cs at d) ≡ map f cs
 same_set f [] at c d there same = refl
-same_set f (x ∷ xs) zero c d there same = ap (λ t. t ∷ map f xs) (same ∙ ap f (sym (some_same x c there)))
+same_set f (x ∷ xs) zero c d there same = ap (λ t. t ∷ map f xs) (same ∙ ap f (sym (same_some x c there)))
 same_set f (x ∷ xs) (suc n) c d there same = ap (λ ts. f x ∷ ts) (same_set f xs n c d there same)
 
 -- so it is with what they tell
@@ -131,7 +128,7 @@ told_set = same_set client_tells
 pub alike_there : (es : List SeatEntry) (cs : List Client) (at : ℕ) (e : SeatEntry) → Alike es (sessions cs) → slice_get es at ≡ Some e → (c : Client) × (slice_get cs at ≡ Some c) × (entry_tells e ≡ client_tells c)
 alike_there [] cs at e h there = absurd (cc)
 alike_there (x ∷ xs) [] at e h there = absurd (cc)
-alike_there (x ∷ xs) (c ∷ cs) zero e h there = (c, refl, ap entry_tells (sym (some_same x e there)) ∙ first_alike x (session_of_client c) xs (sessions cs) h)
+alike_there (x ∷ xs) (c ∷ cs) zero e h there = (c, refl, ap entry_tells (sym (same_some x e there)) ∙ first_alike x (session_of_client c) xs (sessions cs) h)
 alike_there (x ∷ xs) (c ∷ cs) (suc n) e h there = alike_there xs cs n e (rest_alike x (session_of_client c) xs (sessions cs) h) there
 
 -- an entry has a name where a session does
@@ -148,7 +145,7 @@ same_there q (e ∷ es) (s ∷ ss) h =
     ap (λ n. is_some (cond (bytes_eq n q) (Some e) (find (λ (e : SeatEntry). bytes_eq e.session q) es))) name ∙ go (bytes_eq s.id q)
 
 pub client_place : (q : List ℕ) (es : List SeatEntry) (cs : List Client) (o : Option ℕ) → Alike es (sessions cs) → StandsAt q es o → IsClientAt q cs o
-client_place q es cs None h none = nobody (session_of (sessions cs) q) (sym (same_there q es (sessions cs) h) ∙ ap is_some none)
+client_place q es cs None h none = none_there (session_of (sessions cs) q) (sym (same_there q es (sessions cs) h) ∙ ap is_some none)
 client_place q es cs (Some at) h there =
     let found = alike_there es cs at there.0 h there.1 in
     (found.0, found.1, sym (ap (λ x. x.0) found.2) ∙ there.2)

@@ -2,6 +2,7 @@
 use Rattle.std.proofs.Common.{◌≡◌, ◌⊎◌, inl, inr, ℕ, List, Option, Result, Ok, Err, refl, sym, subst}
 use Rattle.std.specs.Prelude.{IsErr, OnOk}
 use Rattle.lists.specs.declared.memory.Memory.{Memory}
+use Rattle.lists.proofs.Results.{on_ok}
 use Rattle.state_model.specs.declared.command.Command.{Command}
 use Rattle.state_model.specs.declared.command.TableFault.{TableFault}
 use Rattle.state_model.specs.declared.command.TableFault.TheVariants as fault
@@ -16,7 +17,6 @@ use Rattle.view_counts.specs.Settled.{View}
 use Rattle.room_core.specs.declared.client.Client.{Client}
 use Rattle.room_core.specs.Stands.{Stands}
 use Rattle.room_core.specs.Steps.{AnswerTells}
-use Rattle.room_core.proofs.Edited.{on_ok}
 use Rattle.room_core.proofs.StandsLaws.{stands_answered}
 
 -- ---- results
@@ -68,6 +68,6 @@ command_stands shared cs live after c a r S T answers tells kept same later s =
     let does = do_command (schema_of live) live.table.state c in
     elim (outcome a does live.table after.table r answers tells) [
       | inl e ↦ on_ok_err (Stands after shared cs × S × T) r e
-      | inr (inl d) ↦ on_ok (Stands after shared cs × S × T) r (stands_answered live after shared cs c d.made kept same later d.does_so s.0, s.1, s.2)
-      | inr (inr d) ↦ on_ok (Stands after shared cs × S × T) r (subst (λ (t : TableState). Stands (let l : Live = record { table = t } in l) shared cs) (sym d) s.0, s.1, s.2)
+      | inr (inl d) ↦ on_ok r (stands_answered live after shared cs c d.made kept same later d.does_so s.0, s.1, s.2)
+      | inr (inr d) ↦ on_ok r (subst (λ (t : TableState). Stands (let l : Live = record { table = t } in l) shared cs) (sym d) s.0, s.1, s.2)
     ]

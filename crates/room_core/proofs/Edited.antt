@@ -1,6 +1,6 @@
 -- What a view edit makes of a room, by the client that it changes.
 use Rattle.std.proofs.Common.{◌≡◌, ℕ, List, map, set, Option, Some, None, Result, Ok, Err, refl, sym, ap, ◌∙◌}
-use Rattle.std.specs.Prelude.{IfOk, OnErr, OnOk, slice_get}
+use Rattle.std.specs.Prelude.{IfOk, slice_get}
 use Rattle.room_model.specs.declared.definition.RoomDef.{RoomDef}
 use Rattle.room_model.specs.declared.event.RoomOut.{RoomOut}
 use Rattle.room_model.specs.declared.refusal.Refusal.{Refusal}
@@ -21,14 +21,6 @@ use Rattle.room_core.proofs.ClientLists.{named_there, changed_there, set_same}
 pub if_ok_same : {X E : Type 0} (r : Result X E) (a b : X) → a ≡ b → IfOk r (λ o. o ≡ a) → IfOk r (λ o. o ≡ b)
 if_ok_same (Ok x) a b same h = h ∙ same
 if_ok_same (Err e) a b same h = h
-
-pub on_ok : {X E : Type 0} (T : Type 0) (r : Result X E) → T → OnOk r T
-on_ok T (Ok x) h = h
-on_ok T (Err e) h = tt
-
-pub on_err : {X E : Type 0} (T : Type 0) (r : Result X E) → T → OnErr r T
-on_err T (Ok x) h = tt
-on_err T (Err e) h = h
 
 -- ---- a room with these clients
 

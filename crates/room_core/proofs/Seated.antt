@@ -5,6 +5,7 @@ use Rattle.std.specs.List.{find}
 use Rattle.std.specs.Option.{option_map, option_map_or}
 use Rattle.std.specs.Str.{bytes_eq}
 use Rattle.std.proofs.lemmas.Bool.{and_parts, not-true}
+use Rattle.lists.proofs.Options.{none_there, same_some}
 use Rattle.room_model.specs.declared.seat.Seat.{Seat}
 use Rattle.room_model.specs.declared.seat.Seat.TheVariants as seat
 use Rattle.room_model.specs.declared.seat.SeatEntry.{SeatEntry}
@@ -18,8 +19,7 @@ use Rattle.room_laws.specs.Placed.{Placed}
 use Rattle.room_laws.specs.Places.{has_place_for, is_connected_in}
 use Rattle.room_laws.proofs.AlikeLists.{has_seat}
 use Rattle.seat_ledger.specs.Calls.{Does, Expires}
-use Rattle.room_laws.proofs.SessionLists.{nobody}
-use Rattle.room_core.proofs.ClientLists.{same_there, some_same}
+use Rattle.room_core.proofs.ClientLists.{same_there}
 
 -- what a call did, by its answer
 pub did : (x : Result Seats SeatFault) (old new : Seats) (done : Unit {0}) → Does x old new (Ok done) → x ≡ Ok new
@@ -46,7 +46,7 @@ is_after (Err f) t old new r is h = absurd (cc)
 
 -- what a lapse leaves
 pub went : (x : Option (List ℕ × Seats)) (l : List ℕ × Seats) (old new : Seats) (r : Option (List ℕ)) → x ≡ Some l → Expires x old new r → new ≡ l.1
-went (Some y) l old new (Some s) is h = h.1 ∙ ap (λ (p : List ℕ × Seats). p.1) (some_same y l is)
+went (Some y) l old new (Some s) is h = h.1 ∙ ap (λ (p : List ℕ × Seats). p.1) (same_some y l is)
 went (Some y) l old new None is h = absurd h
 went None l old new r is h = absurd (cc)
 
@@ -62,7 +62,7 @@ has_any r q p = mapped (find (λ (e : SeatEntry). bytes_eq e.session q) r.seats.
 
 -- it has none where it isn't
 pub no_seat : (r : RoomValue) (q : List ℕ) → Placed r → session_of r.sessions q ≡ None → seat_of r.seats q ≡ None
-no_seat r q p gone = nobody (seat_of r.seats q) (has_any r q p ∙ ap is_some gone)
+no_seat r q p gone = none_there (seat_of r.seats q) (has_any r q p ∙ ap is_some gone)
 
 -- the reservation of a session that there is a place for
 pub reserved_ok : (r : RoomValue) (session : List ℕ) (lapse : ℕ) → Placed r → has_place_for r session ≡ true → reserve r.seats session lapse ≡ Ok (reserved_seat r.seats session lapse)

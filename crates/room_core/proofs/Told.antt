@@ -45,7 +45,8 @@ unqueued_stands schema last rows c d same s =
 
 -- so do all
 pub all_unqueued_stand : (live : State-now) (shared : View) (cs ds : List Client) → AreSameUnqueued ds cs → Stands live shared cs → Stands live shared ds
-all_unqueued_stand live shared cs ds same s = stands_with live shared cs ds s (back ds (subst (All P) (sym same) (All-map P unqueued cs (All-weaker P (λ (c : Client). P (unqueued c)) (λ c h. record { view_stands = h.view_stands; pairs = h.pairs }) cs s.each))))
+all_unqueued_stand live shared cs ds same s = stands_with live shared cs ds s
+    (back ds (subst (All P) (sym same) (All-map P unqueued cs (All-weaker P (λ (c : Client). P (unqueued c)) (λ c h. record { view_stands = h.view_stands; pairs = h.pairs }) cs s.each))))
   where
     P : Client → Type 0
     P = ClientStands (schema_of live) s.last.rows (rows_of live)

@@ -1,10 +1,10 @@
-pub mod Entries
-pub mod Values
 pub mod Clients
+pub mod Costs
+pub mod Entries
 pub mod Leaving
 pub mod Messages
+pub mod Order
 pub mod Stands
 pub mod Steps
 pub mod Ticks
-pub mod Order
-pub mod Costs
+pub mod Values

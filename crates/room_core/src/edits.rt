@@ -5,7 +5,7 @@ ghost use Rattle.instance_table.specs.Behind.{places_behind};
 ghost use Rattle.room_model.specs.Ledger.{set_locked};
 ghost use Rattle.room_model.specs.Limits.{longest_time};
 ghost use Rattle.room_model.specs.Room.{after_answer, made_outs, on_session, with_seats};
-ghost use Rattle.room_model.specs.Sessions.{keep_set, view_added_to, view_removed_from};
+ghost use Rattle.room_model.specs.Sessions.{keep_set};
 ghost use Rattle.room_laws.specs.Ordered.{Ordered};
 ghost use Rattle.live_state.specs.Live.{rows_of, schema_of};
 ghost use Rattle.view_edits.specs.There.{are_there};
@@ -155,50 +155,13 @@ fn edit_one<L: Ledger>(
     ensures there { OnOk result (are_there (rows_of live.now) client.new.members.now ≡ true) }
     ensures cost { steps.new ≤ steps.old + places_behind (schema_of live.now) (rows_of live.now) pair.who pair.tag }
 {
+    if client.stage == Stage::Reserved {
+        return Ok(Some(Refusal::NotHere));
+    }
     match edit {
-        ViewEdit::Show => show_to(live, client, pair, steps),
-        ViewEdit::Hide => hide_from(live, client, pair, steps),
+        ViewEdit::Show => refusal_of(show(live, &mut client.members, pair, steps)),
+        ViewEdit::Hide => refusal_of(hide(live, &mut client.members, pair, steps)),
     }
-}
-
-// A row and what is behind it comes into the view of one client, or why it is refused.
-fn show_to<L: Ledger>(
-    live: &LiveState,
-    client: &mut Client,
-    pair: Pair,
-    steps: &mut Steps<L>,
-) -> Result<Option<Refusal>, Memory>
-    requires { are_there (rows_of live.now) client.old.members.now ≡ true }
-    ensures tells { IfOk result (EditTells (view_added_to (schema_of live.now) (rows_of live.now) pair (session_of_client client.old)) client.old client.new) }
-    ensures edited { OnOk result (Edited client.old client.new) }
-    ensures told { client_tells client.new ≡ client_tells client.old }
-    ensures there { OnOk result (are_there (rows_of live.now) client.new.members.now ≡ true) }
-    ensures cost { steps.new ≤ steps.old + places_behind (schema_of live.now) (rows_of live.now) pair.who pair.tag }
-{
-    if client.stage == Stage::Reserved {
-        return Ok(Some(Refusal::NotHere));
-    }
-    refusal_of(show(live, &mut client.members, pair, steps))
-}
-
-// A row and what is behind it goes from the view of one client, or why it is refused.
-fn hide_from<L: Ledger>(
-    live: &LiveState,
-    client: &mut Client,
-    pair: Pair,
-    steps: &mut Steps<L>,
-) -> Result<Option<Refusal>, Memory>
-    requires { are_there (rows_of live.now) client.old.members.now ≡ true }
-    ensures tells { IfOk result (EditTells (view_removed_from (schema_of live.now) (rows_of live.now) pair (session_of_client client.old)) client.old client.new) }
-    ensures edited { OnOk result (Edited client.old client.new) }
-    ensures told { client_tells client.new ≡ client_tells client.old }
-    ensures there { OnOk result (are_there (rows_of live.now) client.new.members.now ≡ true) }
-    ensures cost { steps.new ≤ steps.old + places_behind (schema_of live.now) (rows_of live.now) pair.who pair.tag }
-{
-    if client.stage == Stage::Reserved {
-        return Ok(Some(Refusal::NotHere));
-    }
-    refusal_of(hide(live, &mut client.members, pair, steps))
 }
 
 // What the answer to an edit refuses.

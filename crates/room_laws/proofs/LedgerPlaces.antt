@@ -1,10 +1,10 @@
 -- What each call of a seat ledger leaves of its places.
-use Rattle.std.proofs.Common.{◌≡◌, ℕ, ◌≤◌, Bool, true, false, not, cond, List, [], ◌∷◌, length, Option, Some, None, is_some, Result, Ok, Err, refl, arith}
-use Rattle.std.specs.Prelude.{filter, IfSome, IfOk}
+use Rattle.std.proofs.Common.{◌≡◌, ℕ, ◌≤◌, Bool, true, false, not, cond, List, [], ◌∷◌, Option, Some, None, is_some, Result, Ok, Err, refl, arith}
+use Rattle.std.specs.Prelude.{IfSome, IfOk}
 use Rattle.std.specs.Str.{bytes_eq}
 use Rattle.std.proofs.lemmas.Bool.{leb-false}
 use Rattle.std.proofs.lemmas.List.{length-append, length-map}
-use Rattle.std.proofs.lemmas.List.Sums.{length-filter, count_by-le-length}
+use Rattle.lists.proofs.Passing.{length-filter_most}
 use Rattle.room_model.specs.declared.seat.Seat.{Seat}
 use Rattle.room_model.specs.declared.seat.Seat.TheVariants.{Reserved, Taken, Kept}
 use Rattle.room_model.specs.declared.seat.SeatEntry.{SeatEntry}
@@ -12,10 +12,6 @@ use Rattle.room_model.specs.declared.seat.SeatFault.TheVariants.{NoSeat, WrongTo
 use Rattle.room_model.specs.Seats.{Seats, in_use, seat_of, seated, seated_entry, left_seat}
 use Rattle.room_model.specs.Ledger as ledger
 use Rattle.room_laws.specs.Ledgers.{Within, KeepsMax, LedgersKeep}
-
--- a filter is no longer than its list
-filter_fits : {X : Type 0} (p : X → Bool) (xs : List X) → length (filter p xs) ≤ length xs
-filter_fits p xs = omega (arith, length-filter p xs, count_by-le-length p xs)
 
 -- ---- the calls
 
@@ -63,7 +59,7 @@ keep_keeps s within session lapse None = tt
 -- what goes leaves no more than was there
 pub left_keeps : (s : Seats) → Within s → (session : List ℕ) → KeepsMax s (left_seat s session)
 left_keeps s within session =
-    let fits = filter_fits (λ (e : SeatEntry). not (bytes_eq e.session session)) s.entries in
+    let fits = length-filter_most (λ (e : SeatEntry). not (bytes_eq e.session session)) s.entries in
     (omega (arith, within, fits), refl)
 
 leave_keeps : (s : Seats) → Within s → (session : List ℕ) (there : Bool) → IfOk (cond there (Ok (left_seat s session)) (Err NoSeat)) (KeepsMax s)

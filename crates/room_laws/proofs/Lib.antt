@@ -1,13 +1,13 @@
+mod HappenRows
+mod LedgerRows
 pub mod AlikeLists
 pub mod LedgerPlaces
-mod LedgerRows
-mod HappenRows
+pub mod Ordering
+pub mod PlacedSteps
+pub mod QuietSteps
+pub mod RoomObeys
+pub mod RoomPlaced
 pub mod RoomPlaces
 pub mod SessionLists
-pub mod PlacedSteps
-pub mod RoomPlaced
-pub mod StepFacts
-pub mod RoomObeys
 pub mod SessionNames
-pub mod Ordering
-pub mod QuietSteps
+pub mod StepFacts

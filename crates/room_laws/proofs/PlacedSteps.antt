@@ -5,6 +5,7 @@ use Rattle.std.specs.Option.{option_map, option_map_or}
 use Rattle.std.specs.Str.{bytes_eq}
 use Rattle.std.proofs.lemmas.Bool.{and_parts, not-true}
 use Rattle.lists.proofs.SameBytes.{same_bytes, bytes_eq_self, bytes_eq_sym}
+use Rattle.lists.proofs.Options.{none_there}
 use Rattle.state_model.specs.Rows.{root_alone, is_live}
 use Rattle.state_model.specs.Members.{Members, no_members, view_added, view_removed, is_view_full}
 use Rattle.state_model.specs.declared.row.RowEntry.{RowEntry}
@@ -25,7 +26,7 @@ use Rattle.room_model.specs.Room.{RoomValue, after_reserve, with_sessions, with_
 use Rattle.room_laws.specs.Placed.{Placed, AreDistinct, stands, stage_of, is_reserved, is_kept, standing, standing_of}
 use Rattle.room_laws.specs.Places.{has_place_for, is_moment, may_happen}
 use Rattle.room_laws.proofs.AlikeLists.{alike_more, alike_changed, alike_but, tells_mapped, tells_changed}
-use Rattle.room_laws.proofs.SessionLists.{named_key, session_mapped, session_changed, distinct_more, distinct_mapped, distinct_changed, distinct_but, nobody}
+use Rattle.room_laws.proofs.SessionLists.{named_key, session_mapped, session_changed, distinct_more, distinct_mapped, distinct_changed, distinct_but}
 
 -- ---- the stage of a session that is changed
 
@@ -39,7 +40,8 @@ changed_other id q change ss keeps apart = ap (option_map (λ (s : Session). s.s
         let other : bytes_eq s.id id ≡ false = ap (λ n. bytes_eq n id) name ∙ (bytes_eq_sym q id ∙ apart) in
         ap (λ b. let t : Session = cond b (change s) s in Some t.stage) other
 
-pub changed_own : (id : List ℕ) (change : Session → Session) (ss : List Session) (s : Session) → ((s : Session) → bytes_eq s.id id ≡ true → (change s).id ≡ s.id) → session_of ss id ≡ Some s → stage_of (change_session id change ss) id ≡ Some (change s).stage
+pub changed_own : (id : List ℕ) (change : Session → Session) (ss : List Session) (s : Session) → ((s : Session) → bytes_eq s.id id ≡ true → (change s).id ≡ s.id) → session_of ss id ≡ Some s
+    → stage_of (change_session id change ss) id ≡ Some (change s).stage
 changed_own id change ss s keeps found =
     let name : s.id ≡ id = named_key (λ (s : Session). s.id) id ss s found in
     ap (option_map (λ (s : Session). s.stage)) (session_changed id id change ss keeps ∙ ap (option_map (λ (s : Session). cond (bytes_eq s.id id) (change s) s)) found)
@@ -51,7 +53,7 @@ pub reserve_placed : (r : RoomValue) (session : List ℕ) (lapse : ℕ) → Plac
 reserve_placed r session lapse p h =
     let free = (and_parts (not r.seats.locked && not (is_full r.seats)) (not (is_some (session_of r.sessions session))) (and_parts (is_moment lapse) (has_place_for r session) h).1).1 in
     let mine : Session = record { id = session; stage = Reserved; members = no_members; permitted = root_alone r.schema; queue = []; keep = r.def.keep } in record {
-      distinct = distinct_more r.sessions mine p.distinct (nobody (session_of r.sessions session) (not-true (is_some (session_of r.sessions session)) free));
+      distinct = distinct_more r.sessions mine p.distinct (none_there (session_of r.sessions session) (not-true (is_some (session_of r.sessions session)) free));
       alike = alike_more r.seats.entries r.sessions (record { session = session; seat = seat.Reserved lapse }) mine p.alike refl;
     }
 

@@ -6,6 +6,7 @@ use Rattle.std.specs.Option.{option_map, option_map_or, option_or}
 use Rattle.std.proofs.lemmas.Bool.{and_parts, and_from, not-true}
 use Rattle.std.specs.Str.{bytes_eq}
 use Rattle.lists.proofs.SameBytes.{same_bytes, bytes_eq_self}
+use Rattle.lists.proofs.Passing.{all_append}
 use Rattle.schema_model.specs.Classes.{Schema}
 use Rattle.schema_model.specs.declared.place.Pair.{Pair}
 use Rattle.state_model.specs.declared.row.RowEntry.{RowEntry}
@@ -67,7 +68,8 @@ same_connected r t id p q same = sym (has_seat t id q) ∙ (same ∙ has_seat r 
 -- ---- an opening
 
 -- one that is refused
-refused_laws : (r : RoomValue) (session : List ℕ) (token : Option (List ℕ)) (fresh : List ℕ) (o : RoomOut) → is_answer o ≡ true → ((id : List ℕ) → (is_entry id o || false) ≡ false) → ((id : List ℕ) → (is_end id o || false) ≡ false) → ((id : List ℕ) → (goes_to id o || false) ≡ false)
+refused_laws : (r : RoomValue) (session : List ℕ) (token : Option (List ℕ)) (fresh : List ℕ) (o : RoomOut) → is_answer o ≡ true → ((id : List ℕ) → (is_entry id o || false) ≡ false)
+    → ((id : List ℕ) → (is_end id o || false) ≡ false) → ((id : List ℕ) → (goes_to id o || false) ≡ false)
     → StepLaws r (event.Enter session token fresh) (r, o ∷ [])
 refused_laws r session token fresh o answer entry end goes = record {
   answered = ap (λ b. length (cond b (o ∷ []) [])) answer;
@@ -134,7 +136,8 @@ opened_laws r session token fresh told s found apart answer entry end goes =
 none_laws : (r : RoomValue) (session : List ℕ) (token : Option (List ℕ)) (fresh : List ℕ) → StepLaws r (event.Enter session token fresh) (r, out.NoSeat session ∷ [])
 none_laws r session token fresh = refused_laws r session token fresh (out.NoSeat session) refl (λ id. refl) (λ id. refl) (λ id. refl)
 
-take_laws : (r : RoomValue) (session : List ℕ) (token : Option (List ℕ)) (fresh : List ℕ) (o : Option Seat) → Placed r → seat_of r.seats session ≡ o → StepLaws r (event.Enter session token fresh) (opened_by r session fresh (out.Entered session) (take_of r.seats session fresh o))
+take_laws : (r : RoomValue) (session : List ℕ) (token : Option (List ℕ)) (fresh : List ℕ) (o : Option Seat) → Placed r → seat_of r.seats session ≡ o
+    → StepLaws r (event.Enter session token fresh) (opened_by r session fresh (out.Entered session) (take_of r.seats session fresh o))
 take_laws r session token fresh (Some (seat.Reserved lapse)) p at =
     let found = there_at is_reserved r.sessions session (sym (has_reserved r session p) ∙ ap is_reservation at) in
     opened_laws r session token fresh (out.Entered session) found.0 found.1 (reserved_alone found.0.stage found.2).0 refl (λ id. refl) (λ id. refl) (λ id. refl)
@@ -142,7 +145,8 @@ take_laws r session token fresh (Some (seat.Taken t)) p at = none_laws r session
 take_laws r session token fresh (Some (seat.Kept t lapse)) p at = none_laws r session token fresh
 take_laws r session token fresh None p at = none_laws r session token fresh
 
-retake_laws : (r : RoomValue) (session token fresh : List ℕ) (o : Option Seat) → Placed r → seat_of r.seats session ≡ o → StepLaws r (event.Enter session (Some token) fresh) (opened_by r session fresh (out.Back session) (retake_of r.seats session token fresh o))
+retake_laws : (r : RoomValue) (session token fresh : List ℕ) (o : Option Seat) → Placed r → seat_of r.seats session ≡ o
+    → StepLaws r (event.Enter session (Some token) fresh) (opened_by r session fresh (out.Back session) (retake_of r.seats session token fresh o))
 retake_laws r session token fresh (Some (seat.Reserved lapse)) p at = none_laws r session (Some token) fresh
 retake_laws r session token fresh (Some (seat.Taken t)) p at = none_laws r session (Some token) fresh
 retake_laws r session token fresh (Some (seat.Kept t lapse)) p at =
@@ -298,7 +302,8 @@ removed_owns schema rows p s =
 keep_owns : (ms : ℕ) (s : Session) → Owns s (keep_set ms s)
 keep_owns ms s = unless_owns s.stage s (Ok (record { session = with_keep ms s; outs = [] })) (nothing_own s)
 
-acted_laws : (r : RoomValue) (e : RoomEvent) (id : List ℕ) (does : Session → Result Acted Refusal) → opens e ≡ None → loses e ≡ None → ((s : Session) → Owns s (does s)) → Placed r → Placed (acted_on r id (option_map does (session_of r.sessions id))).0
+acted_laws : (r : RoomValue) (e : RoomEvent) (id : List ℕ) (does : Session → Result Acted Refusal) → opens e ≡ None → loses e ≡ None → ((s : Session) → Owns s (does s)) → Placed r
+    → Placed (acted_on r id (option_map does (session_of r.sessions id))).0
     → StepLaws r e (acted_on r id (option_map does (session_of r.sessions id)))
 acted_laws r e id does opened lost owns p q = by_found (session_of r.sessions id) refl q
   where
@@ -316,7 +321,8 @@ acted_laws r e id does opened lost owns p q = by_found (session_of r.sessions id
     by_found (Some s) found q = by_answer s (does s) found (owns s) q
 
 -- outputs to each session
-each_laws : (r t : RoomValue) (e : RoomEvent) (gives : Session → List RoomOut) (ss : List Session) → opens e ≡ None → loses e ≡ None → ((s : Session) → OwnOuts s (gives s)) → AreDistinct ss → ((id : List ℕ) → stands is_connected ss id ≡ connected r id) →
+each_laws : (r t : RoomValue) (e : RoomEvent) (gives : Session → List RoomOut) (ss : List Session) → opens e ≡ None → loses e ≡ None → ((s : Session) → OwnOuts s (gives s))
+    → AreDistinct ss → ((id : List ℕ) → stands is_connected ss id ≡ connected r id) →
     ((id : List ℕ) → connected t id ≡ connected r id) → StepLaws r e (t, flat_map gives ss)
 each_laws r t e gives ss opened lost owns distinct same stay =
     quiet_laws r e (t, flat_map gives ss) opened lost (λ id. each_none (is_entry id) gives ss (λ s. (owns s).entries id)) (λ id. each_none (is_end id) gives ss (λ s. (owns s).ends id))
@@ -382,7 +388,8 @@ sends_own s (f ∷ fs) is =
     let rest = sends_own s fs is in
     record { entries = rest.entries; ends = rest.ends; answers = rest.answers; own = λ id h. by_first id (bytes_eq s.id id) refl (λ g. (rest.own id g).0) h }
   where
-    by_first : (id : List ℕ) (b : Bool) → bytes_eq s.id id ≡ b → (list_any (goes_to id) (map (out.Send s.id) fs) ≡ true → bytes_eq s.id id ≡ true) → (b || list_any (goes_to id) (map (out.Send s.id) fs)) ≡ true → (bytes_eq s.id id ≡ true) × (is_connected s.stage ≡ true)
+    by_first : (id : List ℕ) (b : Bool) → bytes_eq s.id id ≡ b → (list_any (goes_to id) (map (out.Send s.id) fs) ≡ true → bytes_eq s.id id ≡ true) → (b || list_any (goes_to id) (map (out.Send s.id) fs)) ≡ true
+        → (bytes_eq s.id id ≡ true) × (is_connected s.stage ≡ true)
     by_first id true e rest h = (e, is)
     by_first id false e rest h = (rest h, is)
 
@@ -408,10 +415,6 @@ is_apart st = not (is_connected st)
 
 abbrev waits : List Session → Lapse → Bool
 waits ss a = stands is_apart ss a.session
-
-all_both : {X : Type 0} (p : X → Bool) (xs ys : List X) → list_all p xs ≡ true → list_all p ys ≡ true → list_all p (xs ++ ys) ≡ true
-all_both p [] ys a b = b
-all_both p (x ∷ xs) ys a b = let parts = and_parts (p x) (list_all p xs) a in and_from (p x) (list_all p (xs ++ ys)) parts.0 (all_both p xs ys parts.1 b)
 
 -- so it is behind a session of another name
 waits_behind : (s : Session) (ss : List Session) (ls : List Lapse) → session_of ss s.id ≡ None → list_all (waits ss) ls ≡ true → list_all (waits (s ∷ ss)) ls ≡ true
@@ -445,7 +448,7 @@ all_wait now (e ∷ es) (s ∷ ss) h d =
     let name : e.session ≡ s.id = ap (λ x. x.0) both in
     let at : standing_of e.seat ≡ standing s.stage = ap (λ x. x.1) both in
     let rest = rest_alike e s es ss h in
-    all_both (waits (s ∷ ss)) (due_at now e.session (lapse_of e.seat)) (flat_map (λ (e : SeatEntry). due_at now e.session (lapse_of e.seat)) es)
+    all_append (waits (s ∷ ss)) (due_at now e.session (lapse_of e.seat)) (flat_map (λ (e : SeatEntry). due_at now e.session (lapse_of e.seat)) es)
     (first name at (lapse_of e.seat) refl) (waits_behind s ss (flat_map (λ (e : SeatEntry). due_at now e.session (lapse_of e.seat)) es) d.0 (all_wait now es ss rest d.1))
   where
     first : e.session ≡ s.id → standing_of e.seat ≡ standing s.stage → (o : Option ℕ) → lapse_of e.seat ≡ o → list_all (waits (s ∷ ss)) (due_at now e.session o) ≡ true

@@ -7,10 +7,6 @@ use Rattle.lists.proofs.SameBytes.{same_bytes, bytes_eq_sym}
 use Rattle.room_model.specs.Sessions.{Session, session_of, change_session, sessions_but}
 use Rattle.room_laws.specs.Placed.{AreDistinct}
 
-pub nobody : {X : Type 0} (o : Option X) → is_some o ≡ false → o ≡ None
-nobody (Some x) h = absurd (cc)
-nobody None h = refl
-
 module _ {X : Type 0} (name : X → List ℕ) where
   -- what has a name
   abbrev pub named : List ℕ → List X → Option X

@@ -115,7 +115,7 @@ connected_within r (Some s) happens each = by_test (is_connected s.stage)
     by_test true = each s
     by_test false = λ id h. h
 
-acknowledged_name : (stage : Stage) (s : Session) → (acknowledged_at stage s).id ≡ s.id
+pub acknowledged_name : (stage : Stage) (s : Session) → (acknowledged_at stage s).id ≡ s.id
 acknowledged_name Reserved s = refl
 acknowledged_name Joining s = refl
 acknowledged_name Due s = refl
@@ -169,7 +169,7 @@ acted_within r id does stays = by_found (session_of r.sessions id) refl
     by_found None found = λ q there. there
     by_found (Some s) found = by_answer s (does s) found (stays s)
 
-told_name : (s : Session) (x : Result Acted Refusal) → Stays s x → (session_after s x).id ≡ s.id
+pub told_name : (s : Session) (x : Result Acted Refusal) → Stays s x → (session_after s x).id ≡ s.id
 told_name s (Err f) h = refl
 told_name s (Ok a) h = h.0
 
@@ -193,7 +193,7 @@ act_within r (act.Keep id ms) = acted_within r id (keep_set ms) (keep_stays ms)
 
 -- ---- a tick
 
-ticked_name : (stage : Stage) (rows : List RowEntry) (s : Session) → (ticked_at stage rows s).id ≡ s.id
+pub ticked_name : (stage : Stage) (rows : List RowEntry) (s : Session) → (ticked_at stage rows s).id ≡ s.id
 ticked_name Reserved rows s = refl
 ticked_name Joining rows s = refl
 ticked_name Due rows s = refl

@@ -1,7 +1,7 @@
 pub mod Ledgers
-pub mod Places
-pub mod Placed
-pub mod StepLaws
-pub mod Ordered
 pub mod Names
+pub mod Ordered
+pub mod Placed
+pub mod Places
 pub mod Quiet
+pub mod StepLaws

@@ -1,2 +1,2 @@
-pub mod RoomRows
 pub mod DefinitionParts
+pub mod RoomRows

@@ -1,8 +1,8 @@
-pub mod Seats
+pub mod Acts
+pub mod Definitions
 pub mod Ledger
 pub mod Limits
-pub mod Sessions
-pub mod Room
-pub mod Definitions
 pub mod Outs
-pub mod Acts
+pub mod Room
+pub mod Seats
+pub mod Sessions

@@ -63,7 +63,8 @@ module _ (schema : Schema) (given : List Sending) where
       → Follows schema (record { standing = s; given = given ++ os })
   follows_more s os frames taken are g queue =
       let all : frames_given (given ++ os) ≡ frames_given given ++ frames = given_append given os ∙ ap (λ fs. frames_given given ++ fs) are in
-      let client : client_given schema (given ++ os) ≡ client_after schema so_far frames = ap (client_after schema (new_client schema)) all ∙ fold-append (λ (c : Client) bytes. (client_turn schema c bytes).client) (new_client schema) (frames_given given) frames in
+      let client : client_given schema (given ++ os) ≡ client_after schema so_far frames = ap (client_after schema (new_client schema)) all
+      ∙ fold-append (λ (c : Client) bytes. (client_turn schema c bytes).client) (new_client schema) (frames_given given) frames in
       record {
         taken = ap (takes_all schema (new_client schema)) all ∙ (takes_append schema (new_client schema) (frames_given given) frames ∙ rw (taken, g.taken) refl);
         not_closed = ap (λ (c : Client). c.closed) client ∙ g.not_closed;

@@ -17,6 +17,7 @@ use Rattle.room_model.specs.declared.event.Stage.{Stage}
 use Rattle.room_model.specs.declared.event.Stage.TheVariants.{Reserved, Joining, Due, Live, Kept}
 use Rattle.room_model.specs.Sessions.{Session, session_of, change_session, is_connected, at_stage}
 use Rattle.room_model.specs.Room.{RoomValue, after_read, after_frame, acknowledged, acknowledged_at, unread_frame}
+use Rattle.room_laws.proofs.SessionNames.{acknowledged_name}
 use Rattle.life_model.specs.Entries.{Entry, Record, Framed, Sending, Frame, Closing}
 use Rattle.life_model.specs.Lives.{entry_if}
 use Rattle.life_model.specs.Sent as standing
@@ -50,13 +51,6 @@ fits_acknowledged schema rows Due s bytes entries outputs view h is f =
 fits_acknowledged schema rows Live s bytes entries outputs view h is f =
     fits_answered schema rows (held (at_stage Live s)) entries (Framed bytes) outputs [] view f (framed_sent schema Live s.queue (shared schema rows) s.permitted bytes (Ok client.Ack) h is) (λ frames. refl)
 fits_acknowledged schema rows Kept s bytes entries outputs view h is f = cc
-
-pub acknowledged_name : (st : Stage) (s : Session) → (acknowledged_at st s).id ≡ s.id
-acknowledged_name Reserved s = refl
-acknowledged_name Joining s = refl
-acknowledged_name Due s = refl
-acknowledged_name Live s = refl
-acknowledged_name Kept s = refl
 
 -- what a standing is sent for the other frames
 message_sent : (s : Standing) (kind : MsgKind) (payload : List ℕ) → sent_read s (Ok (client.Msg kind payload)) ≡ (s, [])

@@ -1,5 +1,5 @@
 -- Messages of a room, to one session or to all, and what they make of a life that goes on.
-use Rattle.std.proofs.Common.{◌≡◌, ℕ, Bool, true, false, cond, ◌&&◌, List, [], ◌∷◌, ◌++◌, map, length, Some, Result, Ok, Err, refl, sym, ap, subst, ◌∙◌}
+use Rattle.std.proofs.Common.{◌≡◌, ℕ, Bool, true, false, cond, ◌&&◌, List, [], ◌∷◌, ◌++◌, map, length, Some, Ok, Err, refl, sym, ap, subst, ◌∙◌}
 use Rattle.std.specs.Prelude.{nat_lt}
 use Rattle.std.specs.List.{flat_map}
 use Rattle.std.specs.Option.{option_map, option_map_or}
@@ -11,14 +11,14 @@ use Rattle.state_model.specs.Shown.{shared}
 use Rattle.room_model.specs.declared.event.RoomOut.TheVariants as out
 use Rattle.room_model.specs.declared.event.Stage.{Stage}
 use Rattle.room_model.specs.declared.event.Stage.TheVariants.{Reserved, Joining, Due, Live, Kept}
-use Rattle.room_model.specs.declared.refusal.Refusal.{Refusal}
 use Rattle.room_model.specs.declared.refusal.Refusal.TheVariants as refusal
 use Rattle.room_model.specs.Limits.{most_queued}
-use Rattle.room_model.specs.Sessions.{Session, Acted, session_of, at_stage, with_queue, queued_for, told_at, told_to}
+use Rattle.room_model.specs.Sessions.{Session, session_of, at_stage, with_queue, queued_for, told_at, told_to}
 use Rattle.room_model.specs.Room.{RoomValue, on_session, told_all, session_after, outs_after}
 use Rattle.room_laws.specs.Placed.{AreDistinct}
-use Rattle.room_laws.proofs.PlacedSteps.{Stays, told_stays}
+use Rattle.room_laws.proofs.PlacedSteps.{told_stays}
 use Rattle.room_laws.proofs.SessionLists.{named_key, session_mapped}
+use Rattle.room_laws.proofs.SessionNames.{told_name}
 use Rattle.life_model.specs.Entries.{Record, Told, Sending, Frame}
 use Rattle.life_model.specs.Lives.{entry_if, is_at, is_open}
 use Rattle.life_model.specs.Sent.{progress_of}
@@ -41,10 +41,6 @@ frames_told Joining frame = []
 frames_told Due frame = []
 frames_told Live frame = frame ∷ []
 frames_told Kept frame = []
-
-told_name : (s : Session) (x : Result Acted Refusal) → Stays s x → (session_after s x).id ≡ s.id
-told_name s (Ok a) stays = stays.0
-told_name s (Err f) stays = refl
 
 queued_outs : (frame : List ℕ) (s : Session) → outs_after (queued_for frame s) ≡ []
 queued_outs frame s =

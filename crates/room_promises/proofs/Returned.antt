@@ -20,11 +20,11 @@ use Rattle.room_laws.proofs.AlikeLists.{has_kept}
 use Rattle.room_laws.proofs.PlacedSteps.{there_at}
 use Rattle.room_laws.proofs.RoomPlaced.{rooms_stay_placed}
 use Rattle.room_laws.proofs.SessionLists.{distinct_changed}
+use Rattle.room_laws.proofs.SessionNames.{acknowledged_name}
 use Rattle.life_model.specs.Entries.{Frame}
 use Rattle.life_model.specs.RoomLives.{given_by, room_run}
 use Rattle.room_promises.specs.Returns.{Returns, ClientsReturn, is_back, given_at_tick, whole_frame}
 use Rattle.room_promises.proofs.EventCases.{enter_cases}
-use Rattle.room_promises.proofs.Frames.{acknowledged_name}
 use Rattle.room_promises.proofs.LifeSteps.{changed_here}
 use Rattle.room_promises.proofs.TickSteps.{tick_given}
 use Rattle.room_promises.proofs.Tokens.{OneEachIn, step_tokens, used_dead}

@@ -6,6 +6,7 @@ use Rattle.std.specs.Str.{bytes_eq}
 use Rattle.std.proofs.lemmas.Bool.{and_parts}
 use Rattle.std.proofs.lemmas.List.Elements.{All-nil, All-cons, All-append, All-map}
 use Rattle.lists.proofs.SameBytes.{bytes_eq_self}
+use Rattle.lists.proofs.Options.{none_there}
 use Rattle.schema_model.specs.Classes.{Schema, is_kept}
 use Rattle.state_model.specs.declared.row.RowEntry.{RowEntry}
 use Rattle.state_model.specs.Rows.{root_alone}
@@ -24,7 +25,7 @@ use Rattle.room_model.specs.Sessions.{Session, session_of, view_added_to, view_r
 use Rattle.room_model.specs.Room.{RoomValue, room_step}
 use Rattle.room_laws.specs.Places.{may_happen, may_follow}
 use Rattle.room_laws.proofs.PlacedSteps.{added_stays, removed_stays, keep_stays}
-use Rattle.room_laws.proofs.SessionLists.{named_more, nobody}
+use Rattle.room_laws.proofs.SessionLists.{named_more}
 use Rattle.room_like.specs.Worded.{is_worded_event}
 use Rattle.life_model.specs.RoomLives.{RoomLife, RoomRun, is_in, room_entries, given_by, view_after, lived, new_life, begun, run_step}
 use Rattle.room_promises.proofs.GoodLives.{GoesOn, GoodLife, good_life, with_more}
@@ -91,8 +92,10 @@ life_stepped schema last r e l other room g = life_lived schema last.rows last.r
     by_event (event.Lost session now) other on = loss_on schema last.rows r l on session now
     by_event (event.Moment now) other on = moment_on schema last.rows r l on now
     by_event (event.Act (act.State c)) other on = goes_good (event.Act (act.State c)) (command_on schema last.rows r l on (do_command r.schema r.state c))
-    by_event (event.Act (act.ViewAdd id pair)) other on = goes_good (event.Act (act.ViewAdd id pair)) (edit_on schema last.rows r l on id (view_added_to r.schema r.state.rows pair) (added_stays r.schema r.state.rows pair) (added_edits r.schema r.state.rows pair))
-    by_event (event.Act (act.ViewDel id pair)) other on = goes_good (event.Act (act.ViewDel id pair)) (edit_on schema last.rows r l on id (view_removed_from r.schema r.state.rows pair) (removed_stays r.schema r.state.rows pair) (removed_edits r.schema r.state.rows pair))
+    by_event (event.Act (act.ViewAdd id pair)) other on = goes_good (event.Act (act.ViewAdd id pair))
+        (edit_on schema last.rows r l on id (view_added_to r.schema r.state.rows pair) (added_stays r.schema r.state.rows pair) (added_edits r.schema r.state.rows pair))
+    by_event (event.Act (act.ViewDel id pair)) other on = goes_good (event.Act (act.ViewDel id pair))
+        (edit_on schema last.rows r l on id (view_removed_from r.schema r.state.rows pair) (removed_stays r.schema r.state.rows pair) (removed_edits r.schema r.state.rows pair))
     by_event (event.Act (act.Send id kind payload)) other on = goes_good (event.Act (act.Send id kind payload)) (told_on schema last.rows r l on (server_bytes (server.Msg kind payload)) (λ frames. refl) id)
     by_event (event.Act (act.Raw id kind payload)) other on = goes_good (event.Act (act.Raw id kind payload)) (told_on schema last.rows r l on (server_bytes (server.Raw kind payload)) (λ frames. refl) id)
     by_event (event.Act (act.ToAll kind payload)) other on = goes_good (event.Act (act.ToAll kind payload)) (all_told_on schema last.rows r l on (server_bytes (server.Msg kind payload)) (λ frames. refl) room.placed.distinct)
@@ -113,7 +116,7 @@ life_begun schema rows r session lapse new = good_life schema rows _ _ (record {
     there : session_of (room_step r (event.Reserve session lapse)).0.sessions session ≡ Some mine
     there =
         named_more (λ (s : Session). s.id) session r.sessions mine
-        ∙ (ap (λ o. option_or o (cond (bytes_eq session session) (Some mine) None)) (nobody (session_of r.sessions session) new) ∙ ap (λ b. cond b (Some mine) None) (bytes_eq_self session))
+        ∙ (ap (λ o. option_or o (cond (bytes_eq session session) (Some mine) None)) (none_there (session_of r.sessions session) new) ∙ ap (λ b. cond b (Some mine) None) (bytes_eq_self session))
 
 -- ---- all lives
 

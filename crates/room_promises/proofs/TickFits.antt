@@ -122,7 +122,13 @@ module _ (schema : Schema) (before after : List RowEntry) (d : TickDecodes schem
 
   -- and one that is live its patch
   sees_patch : (s : Session) (outputs : List Sending) (view : List RowEntry) → Sees schema before (held (at_stage Live s)) outputs view → Sees schema after (held (behind Live s)) (outputs ++ map Frame (frames_of Live s)) (seen_by s)
-  sees_patch s outputs view was = record { is_permitted = refl; is_view = refl; is_free = decoded_free schema (patch_of s) s.permitted (seen_by s) leads; decodes = by_operation (has_operation schema (shared schema before) s.permitted (shared schema after) (seen_by s)) refl }
+  sees_patch s outputs view was = record {
+    is_permitted = refl;
+    is_view = refl;
+    is_free = decoded_free schema (patch_of s) s.permitted (seen_by s) leads;
+    decodes =
+        by_operation (has_operation schema (shared schema before) s.permitted (shared schema after) (seen_by s)) refl;
+  }
     where
       leads : decoded schema (patch_of s) s.permitted ≡ Ok (seen_by s)
       leads = patch_leads s outputs view was

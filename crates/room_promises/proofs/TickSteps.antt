@@ -13,19 +13,13 @@ use Rattle.room_model.specs.Sessions.{Session, session_of}
 use Rattle.room_model.specs.Room.{RoomValue, after_tick, tick_outs, frames_at, ticked_at, session_swept}
 use Rattle.room_laws.specs.Placed.{AreDistinct}
 use Rattle.room_laws.proofs.SessionLists.{session_mapped, distinct_mapped}
+use Rattle.room_laws.proofs.SessionNames.{ticked_name}
 use Rattle.life_model.specs.Entries.{Ticked, Frame}
 use Rattle.life_model.specs.Lives.{is_at, sees_ticks, tick_entries}
 use Rattle.life_model.specs.RoomLives.{RoomLife, is_in, rows_for, room_entries, view_after, given_by}
 use Rattle.room_promises.proofs.GoodLives.{held, Fits, GoesOn, with_more}
 use Rattle.room_promises.proofs.GivenOwn.{own_frames}
 use Rattle.room_promises.proofs.TickFits.{TickDecodes, entries_at, fits_tick}
-
-ticked_name : (st : Stage) (rows : List RowEntry) (s : Session) → (ticked_at st rows s).id ≡ s.id
-ticked_name Reserved rows s = refl
-ticked_name Joining rows s = refl
-ticked_name Due rows s = refl
-ticked_name Live rows s = refl
-ticked_name Kept rows s = refl
 
 ticked_now : (st : Stage) (rows : List RowEntry) (s : Session) → (ticked_at st rows s).members.now ≡ s.members.now
 ticked_now Reserved rows s = refl
@@ -92,6 +86,7 @@ module _ (before : List RowEntry) (r : RoomValue) (l : RoomLife) (g : GoesOn r.s
     fits =
         subst (λ es. Fits r.schema (ticked_rows r) (held (ticks r clean)) (l.entries ++ es) (l.outputs ++ flat_map (given_by l.session) after.1) (view_after event.Tick after.0 l)) (sym entries_now)
         (subst (λ os. Fits r.schema (ticked_rows r) (held (ticks r clean)) (l.entries ++ entries_at r.schema before (ticked_rows r) d g.session.stage g.session) (l.outputs ++ os) (view_after event.Tick after.0 l)) (sym outs_now)
-        (subst (λ o. Fits r.schema (ticked_rows r) (held (ticks r clean)) (l.entries ++ entries_at r.schema before (ticked_rows r) d g.session.stage g.session) (l.outputs ++ map Frame (frames_now r (shared r.schema before) clean)) (option_map_or (λ (rows : List RowEntry × List RowEntry). rows.1) o l.view)) (sym rows_now)
+        (subst (λ o. Fits r.schema (ticked_rows r) (held (ticks r clean)) (l.entries ++ entries_at r.schema before (ticked_rows r) d g.session.stage g.session)
+        (l.outputs ++ map Frame (frames_now r (shared r.schema before) clean)) (option_map_or (λ (rows : List RowEntry × List RowEntry). rows.1) o l.view)) (sym rows_now)
         (fits_tick r.schema before (ticked_rows r) d g.session.stage g.session l.entries l.outputs l.view g.fits)));
   }

@@ -1,2 +1,2 @@
-pub mod RoomPromises
 pub mod Returns
+pub mod RoomPromises

@@ -11,10 +11,10 @@ use Rattle.text_model.specs.declared.schedule.Print.{Print}
 use Rattle.text_model.specs.declared.schedule.Schedule.{Schedule}
 use Rattle.text_model.specs.OutLines.{read_print_text}
 use Rattle.text_model.specs.RowLines.{rows_text}
-use Rattle.text_model.specs.Schedules.{Fault, read_schedule_text, schedule_text}
+use Rattle.text_model.specs.Schedules.{Fault, is_schedule, read_schedule_text, schedule_text}
 use Rattle.text_model.proofs.PrintLaws.{print_is_read, read_is_print}
 use Rattle.text_model.proofs.ScheduleLaws.{schedule_is_read, read_is_schedule}
-use Rattle.room_server.proofs.ReplayedLaws.{schedule_keeps}
+use Rattle.room_server.proofs.ReplayedLaws.{schedule_keeps, schedule_prints}
 use Rattle.room_server.specs.declared.ending.Ending.{Ending}
 use Rattle.room_server.specs.declared.ending.Ending.TheVariants.{Done, Usage, Refused, ReadFailed, WriteFailed, Memory}
 use Rattle.room_server.specs.declared.output.WriteFault.{WriteFault}
@@ -24,7 +24,7 @@ use Rattle.room_server.specs.declared.task.Task.TheVariants.{Replay, Serve, View
 use Rattle.room_server.specs.Answers.{Answer, answer_for, answer_to, client_answer, done, make_answer, part_word, print_answer, refusal, schedule_answer, text_answer, usage}
 use Rattle.room_server.specs.Endings.{status_of, ended_as, Writes, EndsAs, ReadsText, ReadEnds, IsAnswered, IsDone, IsEnded, IsFaulty, IsRefused, IsReplayed, IsViewed, IsQuiet}
 use Rattle.room_server.specs.Frames.{frame_words}
-use Rattle.room_server.specs.Turns.{end_line, printed}
+use Rattle.room_server.specs.Turns.{end_line, print_of, printed}
 use Rattle.room_server.specs.Views.{client_of}
 use Rattle.room_server.specs.Words.{usage_line}
 
@@ -143,6 +143,10 @@ written_ends whole output (Err fault.Memory) t0 t1 e ok wrote is = let P : Endin
 
 -- ---- what the statuses say
 
+-- what is printed of a schedule is answered as what its clients make of it
+print_answered : (s : Schedule) → is_schedule s ≡ true → (conn : ℕ) → length (printed s) ≤ 2 ^ 24 → answer_to (View conn) (printed s) ≡ client_answer (client_of conn (print_of s))
+print_answered s is conn short = answer_short (View conn) (printed s) short ∙ ap (print_answer conn) (print_is_read (printed s) (print_of s) (schedule_prints s is))
+
 -- 0 says that the text is a schedule's, and that it is printed
 replayed_text : (l0 l1 t0 t1 : Option (List ℕ)) (text : List ℕ) → ReadsText l0 l1 text → EndsAs (answer_to Replay text) t0 t1 Done → IsAnswered Replay text → IsReplayed l0 l1 t0 t1
 replayed_text l0 l1 t0 t1 text read ends (short, (s, is)) =
@@ -155,6 +159,8 @@ replayed_text l0 l1 t0 t1 text read ends (short, (s, is)) =
       read = subst (λ t. ReadsAll l0 l1 t) is.1 (read.1 short);
       took = subst (λ (a : Answer). Takes t0 t1 a.output) answer ends.1;
       promises = schedule_keeps s is.0;
+      print = schedule_prints s is.0;
+      viewed = print_answered s is.0;
     }
 
 replayed : (l0 l1 t0 t1 : Option (List ℕ)) → ReadEnds Replay l0 l1 t0 t1 Done → IsReplayed l0 l1 t0 t1

@@ -1,8 +1,8 @@
-pub mod WriteLaws
+pub mod EndingLaws
+pub mod LoadLaws
 pub mod ReplayLaws
 pub mod ReplayedLaws
-pub mod LoadLaws
-pub mod EndingLaws
+pub mod SummaryLaws
 pub mod TaskLaws
 pub mod ViewLaws
-pub mod SummaryLaws
+pub mod WriteLaws

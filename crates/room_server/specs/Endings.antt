@@ -17,9 +17,9 @@ use Rattle.room_server.specs.declared.output.WriteFault.TheVariants as fault
 use Rattle.room_server.specs.declared.task.Task.{Task}
 use Rattle.room_server.specs.declared.task.Task.TheVariants.{Replay, Serve, View, Make}
 use Rattle.room_server.specs.Promised.{KeepsPromises}
-use Rattle.room_server.specs.Answers.{Answer, answer_to, make_answer, refusal, usage}
+use Rattle.room_server.specs.Answers.{Answer, answer_to, client_answer, make_answer, refusal, usage}
 use Rattle.room_server.specs.Summaries.{summary_text}
-use Rattle.room_server.specs.Turns.{end_line, printed}
+use Rattle.room_server.specs.Turns.{end_line, print_of, printed}
 use Rattle.room_server.specs.Views.{client_of}
 
 -- the status of the process
@@ -77,8 +77,8 @@ IsEnded (Some task) left0 left1 taken0 taken1 e = ReadEnds task left0 left1 take
 
 -- ---- what the statuses say
 
--- the source was read to its end, its bytes are the text of a schedule, the sink took exactly what is printed of it,
--- and the three promises hold of its events
+-- the source was read to its end, its bytes are the text of a schedule, the sink took exactly what is printed of it, the
+-- three promises hold of its events, and what is printed is the text of a print, which `view` takes where it isn't too long
 pub record IsReplayed (left0 left1 taken0 taken1 : Option (List ℕ)) : Type 0 where
   pub schedule : Schedule
   pub fit : is_schedule schedule ≡ true
@@ -86,6 +86,8 @@ pub record IsReplayed (left0 left1 taken0 taken1 : Option (List ℕ)) : Type 0 w
   pub read : ReadsAll left0 left1 (schedule_text schedule)
   pub took : Takes taken0 taken1 (printed schedule)
   pub promises : KeepsPromises schedule
+  pub print : IsPrintText (printed schedule) (print_of schedule)
+  pub viewed : (conn : ℕ) → length (printed schedule) ≤ 2 ^ 24 → answer_to (View conn) (printed schedule) ≡ client_answer (client_of conn (print_of schedule))
 
 -- the source was read to its end, its bytes are what a replay prints, the client of the connection refuses none of its
 -- frames, and the sink took exactly its rows and `end`

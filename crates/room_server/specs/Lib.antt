@@ -1,10 +1,10 @@
-pub mod Words
-pub mod Turns
+pub mod Answers
+pub mod Endings
 pub mod Frames
-pub mod Views
+pub mod Promised
+pub mod Replays
 pub mod Seen
 pub mod Summaries
-pub mod Answers
-pub mod Promised
-pub mod Endings
-pub mod Replays
+pub mod Turns
+pub mod Views
+pub mod Words

@@ -13,8 +13,8 @@ use Rattle.room_server.specs.declared.task.Task.TheVariants.{Replay, View, Make}
 abbrev pub rounds_of : List ℕ → Option ℕ
 rounds_of w = decimal_below (most_rounds + 1) w
 
-abbrev pub alone : List ℕ → Option Task
-alone w = if bytes_eq w (codes "replay") then Some Replay else None
+abbrev pub task_of_word : List ℕ → Option Task
+task_of_word w = if bytes_eq w (codes "replay") then Some Replay else None
 
 abbrev pub with_one : List ℕ → List ℕ → Option Task
 with_one w a = if bytes_eq w (codes "view") then option_map View (number_of_word a) else None
@@ -24,7 +24,7 @@ with_two w a b = if bytes_eq w (codes "make") then both Make (number_of_word a) 
 
 -- the command of the words, where they are one's
 abbrev pub task_of : List (List ℕ) → Option Task
-task_of (w ∷ []) = alone w
+task_of (w ∷ []) = task_of_word w
 task_of (w ∷ a ∷ []) = with_one w a
 task_of (w ∷ a ∷ b ∷ []) = with_two w a b
 task_of ws = None

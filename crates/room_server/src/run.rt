@@ -39,9 +39,9 @@ pub fn run<S: Source, K: Sink, W: Wire, C: Clock, I: Ids>(
     // 0: for `replay`, the source was read to its end, its bytes are the text of a schedule, the sink took exactly what is
     // printed of it, and of its events, after every prefix of them: each live client's frames decode to exactly what it may
     // see, a client that takes all that it is sent refuses none of it and has what it may see, what a life is sent is what the
-    // schema and its record are sent, and no room passes its places. For `view`, the bytes are what a replay prints, and the
-    // sink took exactly the rows of the connection's client. For `make`, the sink took exactly the summary of the made
-    // schedule's run.
+    // schema and its record are sent, and no room passes its places; and what the sink took is the text of a print, which
+    // `view` takes where it isn't too long. For `view`, the bytes are what a replay prints, and the sink took exactly the rows
+    // of the connection's client. For `make`, the sink took exactly the summary of the made schedule's run.
     ensures done { result ≡ 0 → IsDone (task_of words.now) (S.left source.old) (S.left source.new) (K.taken sink.old) (K.taken sink.new) }
 
     // 2: the words are no command's, and the sink took exactly the usage line.

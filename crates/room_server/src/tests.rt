@@ -7,9 +7,14 @@ use schema_model::Id;
 use std::alloc::{AllocError, Global};
 use std::test::Fail;
 
-/// What stands before the events of most schedules here.
-pub const HEAD: &str = "class State\nfield x number\nroot State\nprocess proc00001\n\
-    room duel max 4 seat 15000 patch 50 keep 0\nevents\nat 0\n";
+/// The schema of most schedules here.
+pub const SCHEMA: &str =
+    "class State\nfield x number\nfield name string\nfield ok boolean\nroot State\n";
+
+/// What stands before their events.
+pub const HEAD: &str =
+    "class State\nfield x number\nfield name string\nfield ok boolean\nroot State\n\
+    process proc00001\nroom duel max 4 seat 15000 patch 50 keep 0\nevents\nat 0\n";
 
 pub const ASK: &str = "ask 1 /matchmake/joinOrCreate/duel {} room00001 sess00001\n";
 
@@ -21,8 +26,10 @@ pub const PUT: &str = "act room00001 put 0 0 5\n";
 
 pub const TICK: &str = "tick room00001\n";
 
-const JOINED: &str = "class State\nfield x number\nroot State\ncreated room00001 duel\n\
-    reply 1 {\"room\":{\"clients\":1,\"maxClients\":4,\"name\":\"duel\",\"processId\":\"proc00001\",\
+// What they give up to the first tick.
+const JOINED: &str =
+    "class State\nfield x number\nfield name string\nfield ok boolean\nroot State\n\
+    created room00001 duel\nreply 1 {\"room\":{\"clients\":1,\"maxClients\":4,\"name\":\"duel\",\"processId\":\"proc00001\",\
     \"roomId\":\"room00001\"},\"sessionId\":\"sess00001\"}\njoined room00001 sess00001\n\
     send 2 0a09746f6b656e3030303106736368656d61\n";
 
@@ -177,50 +184,58 @@ fn names_the_first_fault(rt: HostRuntime) -> Result<(), Fail> {
             ],
             "line 5 event\n",
         ),
-        (&[HEAD, ASK, OPEN, ACKNOWLEDGE, PUT, TICK], "line 13 end\n"),
+        (&[HEAD, ASK, OPEN, ACKNOWLEDGE, PUT, TICK], "line 15 end\n"),
         (
             &[HEAD, ASK, OPEN, ACKNOWLEDGE, PUT, TICK, "end"],
-            "line 13 event\n",
+            "line 15 event\n",
         ),
         (
             &[HEAD, ASK, OPEN, ACKNOWLEDGE, PUT, TICK, "end\n", TICK],
-            "line 14 end\n",
+            "line 16 end\n",
         ),
         (
             &[HEAD, ASK, OPEN, ACKNOWLEDGE, PUT, TICK, "end\nx"],
-            "line 14 end\n",
+            "line 16 end\n",
         ),
-        (&[HEAD, "tick room00001\r\nend\n"], "line 8 event\n"),
-        (&[HEAD, "tick  room00001\nend\n"], "line 8 event\n"),
+        (&[HEAD, "tick room00001\r\nend\n"], "line 10 event\n"),
+        (&[HEAD, "tick  room00001\nend\n"], "line 10 event\n"),
         (
             &[
                 HEAD,
                 "at 18446744073709551615\nat 18446744073709551616\nend\n",
             ],
-            "line 9 event\n",
+            "line 11 event\n",
         ),
-        (&[HEAD, "at 07\nend\n"], "line 8 event\n"),
-        (&[HEAD, "frame 2 0A\nend\n"], "line 8 event\n"),
+        (&[HEAD, "at 07\nend\n"], "line 10 event\n"),
+        (&[HEAD, "frame 2 0A\nend\n"], "line 10 event\n"),
         (
-            &[HEAD, "act room00001 put 0 0 5.5\nend\n"],
-            "line 8 event\n",
+            &[
+                HEAD,
+                ASK,
+                OPEN,
+                ACKNOWLEDGE,
+                "act room00001 put 0 0 5.5\n",
+                TICK,
+                "end\n",
+            ],
+            "line 13 event\n",
         ),
         (
             &[HEAD, "act room00001 put 0 256 5\nend\n"],
-            "line 8 event\n",
+            "line 10 event\n",
         ),
         (
             &[HEAD, "act room00001 put 4294967296 0 5\nend\n"],
-            "line 8 event\n",
+            "line 10 event\n",
         ),
         (
             &[HEAD, "act room00001 put 0 0 '%41\nend\n"],
-            "line 8 event\n",
+            "line 10 event\n",
         ),
-        (&[HEAD, "open 2 a%2D token0001\nend\n"], "line 8 event\n"),
+        (&[HEAD, "open 2 a%2D token0001\nend\n"], "line 10 event\n"),
         (
             &[HEAD, "act room00001 kick sess00001 3999\nend\n"],
-            "line 8 event\n",
+            "line 10 event\n",
         ),
     ];
     for (text, output) in rows {
@@ -279,6 +294,35 @@ fn views_what_each_client_sees(rt: HostRuntime) -> Result<(), Fail> {
         assert!(rt;
             answers(alloc, &["view", conn], text, 0, output.as_bytes())?,
             "{conn}"
+        );
+    }
+    Ok(())
+}
+
+// What `view` makes of what a replay wrote, and of that with another frame at its end.
+#[test]
+fn views_what_a_replay_wrote(rt: HostRuntime) -> Result<(), Fail> {
+    let alloc = rt.alloc();
+    let text = joined(alloc, &[HEAD, ASK, OPEN, ACKNOWLEDGE, PUT, TICK, "end\n"])?;
+    let written = joined(alloc, &[JOINED, "send 2 0e8005\nend\n"])?;
+    assert!(rt; replays(alloc, text, 0, &written)?);
+    let rows = [
+        ("2", "send 2 0e8005\nend\n", 0, "struct 0 0 0=5\nend\n"),
+        // Nobody's connection has the root alone.
+        ("9", "send 2 0e8005\nend\n", 0, "struct 0 0\nend\n"),
+        (
+            "2",
+            "send 2 0f8005\nend\n",
+            3,
+            "line 10 frame before-full\n",
+        ),
+        ("2", "send 2 0e80\nend\n", 3, "line 10 frame short 1\n"),
+    ];
+    for (conn, last, status, output) in rows {
+        let text = joined(alloc, &[JOINED, last])?;
+        assert!(rt;
+            answers(alloc, &["view", conn], text, status, output.as_bytes())?,
+            "{output}"
         );
     }
     Ok(())
@@ -434,7 +478,7 @@ fn tells_what_failed(rt: HostRuntime) -> Result<(), Fail> {
     let alloc = rt.alloc();
     let text: &[&str] = &[HEAD, ASK, OPEN, ACKNOWLEDGE, PUT, TICK, "end\n"];
     let output = joined(alloc, &[JOINED, "send 2 0e8005\nend\n"])?;
-    let schema = b"class State\nfield x number\nroot State\n".len();
+    let schema = SCHEMA.len();
     // The reads and writes that fail, how much the sink takes a call, the status, and how many bytes of the output it took.
     let rows: [(&[u64], &[u64], usize, u8, usize); 6] = [
         (&[1], &[], usize::MAX, 4, 0),

@@ -1,5 +1,7 @@
 //! What a replay writes, event by event, and the replay of a made schedule's text.
-use crate::tests::{ACKNOWLEDGE, ASK, HEAD, OPEN, PUT, TICK, answers, joined, replays, status_of};
+use crate::tests::{
+    ACKNOWLEDGE, ASK, HEAD, OPEN, PUT, SCHEMA, TICK, answers, joined, replays, status_of,
+};
 use lists::Memory;
 use load_maker::generate;
 use outside::{MemSink, MemSource};
@@ -29,7 +31,7 @@ const TURNS: [(&str, &str); 19] = [
     ),
     (ACKNOWLEDGE, ""),
     (PUT, ""),
-    ("act room00001 put 0 1 5\n", "refused no-field\n"),
+    ("act room00001 put 0 3 5\n", "refused no-field\n"),
     (TICK, "send 2 0e8005\n"),
     ("act room00001 make 0\n", "made room00001 1\n"),
     (
@@ -66,7 +68,7 @@ fn turns_text(alloc: Global) -> Result<Vec<u8>, AllocError> {
 // What the calls of the sink are given in turn: the schema, what each event gives that gives anything, and the end.
 fn turns_written(alloc: Global) -> Result<Vec<&'static str>, AllocError> {
     let mut written = Vec::new(alloc);
-    written.push("class State\nfield x number\nroot State\n")?;
+    written.push(SCHEMA)?;
     for (_, outs) in TURNS {
         if !outs.is_empty() {
             written.push(outs)?;

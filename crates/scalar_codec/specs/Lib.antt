@@ -1,2 +1,2 @@
-pub mod Widths
 pub mod Gives
+pub mod Widths

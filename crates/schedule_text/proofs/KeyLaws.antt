@@ -6,12 +6,12 @@ use Rattle.std.specs.Str.{bytes_eq}
 use Rattle.std.proofs.Math.ListN.{get_or-map}
 use Rattle.std.proofs.lemmas.List.{at_drop_more, length-map, take-append-drop, take_more}
 use Rattle.std.proofs.lemmas.Bool.{and_from, and_parts, false_from_ne_true}
+use Rattle.lists.proofs.Passing.{all_append}
 use Rattle.state_model.specs.Sound.{keys_differ}
 use Rattle.text_model.specs.DefLines.{are_keys}
 use Rattle.text_model.specs.Lines.{some_if}
 use Rattle.text_model.specs.Marks.{is_room_name}
 use Rattle.text_model.proofs.Keys.{keys_apart, keys_push}
-use Rattle.text_model.proofs.Spaced.{all_append}
 use Rattle.text_words.specs.Words.{bytes_of}
 
 -- a word at a place

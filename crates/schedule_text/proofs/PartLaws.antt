@@ -6,13 +6,14 @@ use Rattle.std.proofs.lemmas.List.Folds.{list_any-append}
 use Rattle.std.proofs.lemmas.List.Splits.{length-slice_split}
 use Rattle.std.proofs.lemmas.List.{drop_at, drop_all, length-append, length-take-le, length_push, take_all, take_at}
 use Rattle.std.proofs.lemmas.Bool.{and_from, and_parts, or_from, or_parts}
+use Rattle.lists.proofs.Passing.{all_append}
 use Rattle.schema_model.specs.Classes.{Schema}
 use Rattle.schema_model.specs.Reading.{◌>>=◌}
 use Rattle.text_model.specs.Lines.{behind_lines, lines_in, pieces_of, words_of}
 use Rattle.text_model.specs.Schedules.{Fault, behind, behind_schema, is_root_line, schema_of_lines, schema_part, with_schema}
 use Rattle.text_model.specs.SchemaReading.{empty_draft, ended, lines_taken, read_pieces, read_schema_text}
 use Rattle.text_model.proofs.SchemaLaw.{lines_are_schema}
-use Rattle.text_model.proofs.Spaced.{all_append, cut_first, prefix_of_push, last_of_push}
+use Rattle.text_model.proofs.Spaced.{cut_first, prefix_of_push, last_of_push}
 use Rattle.text_words.specs.Cuts.{IsCut, IsUncut}
 use Rattle.schedule_text.specs.Tells.{IsEnd}
 use Rattle.text_words.proofs.CutLaws.{prefix_more, last_more}
@@ -157,7 +158,8 @@ end_all text count rest r uncut =
     let nothing : drop len text ≡ [] = drop_all len text (omega arith) in
     let none : list_any is_root_line (lines_in text) ≡ false = ap (list_any is_root_line) lines ∙ r.none in
     let pieces = pieces_of text in
-    let same : read_schema_text text ≡ schema_of_lines (lines_in text) (behind_lines text) = ap (λ k. lines_taken 1 empty_draft (map words_of (lines_in text)) >>= ended k (behind_lines text)) (sym (length-take-le (length pieces - 1) pieces (omega arith))) in
+    let same : read_schema_text text ≡ schema_of_lines (lines_in text) (behind_lines text) =
+    ap (λ k. lines_taken 1 empty_draft (map words_of (lines_in text)) >>= ended k (behind_lines text)) (sym (length-take-le (length pieces - 1) pieces (omega arith))) in
     let go : ℕ → Schema → List (List ℕ) → Result (ℕ × Schema × List (List ℕ)) Fault = λ n s ls. Ok (n, s, ls) in
     record {
       within = omega arith;

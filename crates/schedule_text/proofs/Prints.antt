@@ -1,6 +1,5 @@
 -- What is appended, part by part.
-use Rattle.std.proofs.Common.{◌≡◌, ℕ, ◌+◌, ◌<◌, List, [], ◌∷◌, ◌++◌, length, take, get_or, map, Result, Ok, Err, refl, sym, ap, ◌∙◌, arith}
-use Rattle.std.specs.Prelude.{OnErr}
+use Rattle.std.proofs.Common.{◌≡◌, ℕ, ◌+◌, ◌<◌, List, [], ◌∷◌, ◌++◌, length, take, get_or, map, refl, sym, ap, ◌∙◌, arith}
 use Rattle.std.proofs.lemmas.List.{append_assoc, take_more, append-nil, map-append, length-map, length-take-le}
 use Rattle.text_words.specs.Words.{behind}
 use Rattle.text_model.specs.Marks.{spaced}
@@ -26,7 +25,8 @@ word_first f ws i d old mid now h e m n =
     ap spaced (map_take_more f ws i d h) ∙ ap (λ k. spaced (map f (take k ws) ++ f (get_or ws i d) ∷ [])) e in
     n ∙ (ap (λ t. t ++ f (get_or ws i d)) (m ∙ (ap (λ t. old ++ t) none ∙ append-nil old)) ∙ ap (λ t. old ++ t) (sym one))
 
-pub word_more : {W : Type 0} (f : W → List ℕ) (ws : List W) (i : ℕ) (d : W) (old mid now : List ℕ) → i < length ws → 0 < i → mid ≡ (old ++ spaced (map f (take i ws))) ++ 32 ∷ [] → now ≡ mid ++ f (get_or ws i d) → now ≡ old ++ spaced (map f (take (i + 1) ws))
+pub word_more : {W : Type 0} (f : W → List ℕ) (ws : List W) (i : ℕ) (d : W) (old mid now : List ℕ) → i < length ws → 0 < i → mid ≡ (old ++ spaced (map f (take i ws))) ++ 32 ∷ []
+    → now ≡ mid ++ f (get_or ws i d) → now ≡ old ++ spaced (map f (take (i + 1) ws))
 word_more f ws i d old mid now h more m n =
     let prefix = map f (take i ws) in
     let word = f (get_or ws i d) in
@@ -48,8 +48,3 @@ row_done old first second now w a b ws f s n =
     n ∙ (ap (λ t. t ++ behind ws) (s ∙ ap (λ t. t ++ behind (a ∷ b ∷ [])) f)
     ∙ (append_assoc (old ++ w) (behind (a ∷ b ∷ [])) (behind ws)
     ∙ (append_assoc old w (behind (a ∷ b ∷ []) ++ behind ws) ∙ ap (λ t. old ++ t) (ap (λ t. w ++ t) items ∙ sym (spaced_behind w (a ∷ b ∷ ws))))))
-
--- what holds however a call ends
-pub any_err : {T E : Type 0} {P : Type 0} (r : Result T E) → P → OnErr r P
-any_err (Ok x) p = tt
-any_err (Err e) p = p

@@ -49,7 +49,8 @@ module _ (n : ℕ) (text line behind : List ℕ) (cut : IsCut text line behind) 
 
   event_tried : is_word (codes "end") line ≡ false
       → events_from n (lines_in text) (behind_lines text) ≡ option_map_or (λ e. events_from (suc n) (lines_in behind) (behind_lines behind) >>= (λ es. Ok (e ∷ es))) (event_of_line line) (Err (n, word.Event))
-  event_tried other = events_cut ∙ ap (λ b. cond b (at_end (suc n) (lines_in behind) (behind_lines behind) []) (option_map_or (λ e. events_from (suc n) (lines_in behind) (behind_lines behind) >>= (λ es. Ok (e ∷ es))) (event_of_line line) (Err (n, word.Event)))) other
+  event_tried other = events_cut ∙ ap (λ b. cond b (at_end (suc n) (lines_in behind) (behind_lines behind) [])
+      (option_map_or (λ e. events_from (suc n) (lines_in behind) (behind_lines behind) >>= (λ es. Ok (e ∷ es))) (event_of_line line) (Err (n, word.Event)))) other
 
   pub events_more : (es : List HubEvent) (e : HubEvent) → is_word (codes "end") line ≡ false → event_of_line line ≡ Some e
       → behind_some es (events_from n (lines_in text) (behind_lines text)) ≡ behind_some (es ++ e ∷ []) (events_from (n + 1) (lines_in behind) (behind_lines behind))
@@ -66,12 +67,14 @@ module _ (n : ℕ) (text line behind : List ℕ) (cut : IsCut text line behind) 
   pub outs_end : (os : List (ℕ × HubOut)) → is_word (codes "end") line ≡ true → behind_some os (outs_from n (lines_in text) (behind_lines text)) ≡ at_end (n + 1) (lines_in behind) (behind_lines behind) os
   outs_end os is =
       ap (behind_some os)
-      (outs_cut ∙ ap (λ b. cond b (at_end (suc n) (lines_in behind) (behind_lines behind) []) (option_map_or (λ o. outs_from (suc n) (lines_in behind) (behind_lines behind) >>= (λ os. Ok ((n, o) ∷ os))) (out_of (words_of line)) (Err (n, word.Output)))) is)
+      (outs_cut ∙ ap (λ b. cond b (at_end (suc n) (lines_in behind) (behind_lines behind) [])
+      (option_map_or (λ o. outs_from (suc n) (lines_in behind) (behind_lines behind) >>= (λ os. Ok ((n, o) ∷ os))) (out_of (words_of line)) (Err (n, word.Output)))) is)
       ∙ (some_end os (suc n) (lines_in behind) (behind_lines behind) ∙ ap (λ k. at_end k (lines_in behind) (behind_lines behind) os) (sym (add-one n)))
 
   out_tried : is_word (codes "end") line ≡ false
       → outs_from n (lines_in text) (behind_lines text) ≡ option_map_or (λ o. outs_from (suc n) (lines_in behind) (behind_lines behind) >>= (λ os. Ok ((n, o) ∷ os))) (out_of (words_of line)) (Err (n, word.Output))
-  out_tried other = outs_cut ∙ ap (λ b. cond b (at_end (suc n) (lines_in behind) (behind_lines behind) []) (option_map_or (λ o. outs_from (suc n) (lines_in behind) (behind_lines behind) >>= (λ os. Ok ((n, o) ∷ os))) (out_of (words_of line)) (Err (n, word.Output)))) other
+  out_tried other = outs_cut ∙ ap (λ b. cond b (at_end (suc n) (lines_in behind) (behind_lines behind) [])
+      (option_map_or (λ o. outs_from (suc n) (lines_in behind) (behind_lines behind) >>= (λ os. Ok ((n, o) ∷ os))) (out_of (words_of line)) (Err (n, word.Output)))) other
 
   pub outs_more : (os : List (ℕ × HubOut)) (o : HubOut) → is_word (codes "end") line ≡ false → out_of (words_of line) ≡ Some o
       → behind_some os (outs_from n (lines_in text) (behind_lines text)) ≡ behind_some (os ++ (n, o) ∷ []) (outs_from (n + 1) (lines_in behind) (behind_lines behind))

@@ -52,7 +52,7 @@ small_more : (earlier : List (List Declared)) (c : Class) → list_all is_small 
     list_all is_small (earlier ++ fields_next earlier c ∷ []) ≡ true
 small_more earlier c h e = simp (list_all-append, h, length-fields_next, e)
 
-and_no : (b : Bool) → (b && false) ≡ false
+pub and_no : (b : Bool) → (b && false) ≡ false
 and_no true = refl
 and_no false = refl
 

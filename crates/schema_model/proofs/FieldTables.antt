@@ -4,6 +4,7 @@ use Rattle.std.specs.List.{list_all}
 use Rattle.std.proofs.lemmas.Bool.Decides.{nat_tests}
 use Rattle.std.proofs.lemmas.List.{length-map}
 use Rattle.std.proofs.lemmas.Option.{slice_get_past}
+use Rattle.lists.proofs.ListFacts.{past_end}
 use Rattle.schema_model.specs.declared.class.Class.{Class}
 use Rattle.schema_model.specs.declared.class.FieldDecl.{FieldDecl}
 use Rattle.schema_model.specs.Classes.{Declared, inherited, fields_from, is_earlier, parents_earlier}
@@ -80,15 +81,10 @@ pub line_fields : (cs : List Class) (n : ℕ) (c : Class) → parents_earlier 0 
     inherited (fields_from [] cs) (Some n) ≡ inherited (fields_from [] cs) c.parent ++ map (declared_by n) c.own
 line_fields cs n c h e = ap (λ o. unwrap_or o []) (table_from [] cs n n c (omega arith) h e)
 
-past : {A : Type 0} (xs : List A) (i : ℕ) → slice_get xs i ≡ None → length xs ≤ i
-past [] i h = omega arith
-past (x ∷ xs) zero h = absurd (cc)
-past (x ∷ xs) (suc i) h = omega (arith, past xs i h)
-
 -- a class that there isn't has none
 pub no_fields : (cs : List Class) (n : ℕ) → slice_get cs n ≡ None → inherited (fields_from [] cs) (Some n) ≡ []
 no_fields cs n h =
-    let beyond : length (fields_from [] cs) ≤ n = omega (arith, length-fields_from [] cs, past cs n h) in
+    let beyond : length (fields_from [] cs) ≤ n = omega (arith, length-fields_from [] cs, past_end cs n h) in
     ap (λ o. unwrap_or o []) (slice_get_past (fields_from [] cs) n beyond)
 
 -- ---- the way up

@@ -48,7 +48,8 @@ cast_again w n m h e =
 -- ---- a first byte, then a fixed width
 
 -- a part is read behind a first byte as behind a list that ends in it
-pub behind_first : (w : Width) (prefix part more : List ℕ) (first n : ℕ) → fixed_at w ((prefix ++ first ∷ []) ++ (part ++ more)) (length (prefix ++ first ∷ [])) ≡ Ok (n, length (prefix ++ first ∷ []) + byte_len w) → fixed_at w (prefix ++ first ∷ (part ++ more)) (length prefix + 1) ≡ Ok (n, length prefix + suc (byte_len w))
+pub behind_first : (w : Width) (prefix part more : List ℕ) (first n : ℕ) → fixed_at w ((prefix ++ first ∷ []) ++ (part ++ more)) (length (prefix ++ first ∷ [])) ≡ Ok (n, length (prefix ++ first ∷ []) + byte_len w)
+    → fixed_at w (prefix ++ first ∷ (part ++ more)) (length prefix + 1) ≡ Ok (n, length prefix + suc (byte_len w))
 behind_first w prefix part more first n e =
     let place : length prefix + 1 + byte_len w ≡ length prefix + suc (byte_len w) = omega arith in
     let moved = rw (append_assoc prefix (first ∷ []) (part ++ more), length-append prefix (first ∷ [])) at e in
@@ -134,6 +135,8 @@ ltb_below n k h = grind (arith, nat_tests)
 -- what was written as a `number` is read again, whatever stands before and behind it
 pub number_again : (prefix more : List ℕ) (z : ℤ) → in_signed (2 ^ 31) z ≡ true → number_at (prefix ++ (number_bytes z ++ more)) (length prefix) ≡ Ok (z, length prefix + length (number_bytes z))
 number_again prefix more (pos n) h =
-    by_chain (IsRead prefix more (pos n)) (ltb n 128) (ltb n 256) (ltb n 65536) _ _ _ _ (λ e. tiny prefix more n (ltb_below n 128 e)) (λ _. unsigned_8 prefix more n) (λ e. unsigned_16 prefix more n (ltb_below n 65536 e)) (unsigned_32 prefix more n (ltb_below n (2 ^ 31) h))
+    by_chain (IsRead prefix more (pos n)) (ltb n 128) (ltb n 256) (ltb n 65536) _ _ _ _ (λ e. tiny prefix more n (ltb_below n 128 e)) (λ _. unsigned_8 prefix more n)
+    (λ e. unsigned_16 prefix more n (ltb_below n 65536 e)) (unsigned_32 prefix more n (ltb_below n (2 ^ 31) h))
 number_again prefix more (negsuc n) h =
-    by_chain (IsRead prefix more (negsuc n)) (ltb n 32) (ltb n 128) (ltb n 32768) _ _ _ _ (λ e. minus_tiny prefix more n (ltb_below n 32 e)) (λ e. minus_8 prefix more n (ltb_below n 128 e)) (λ e. minus_16 prefix more n (ltb_below n 32768 e)) (minus_32 prefix more n (ltb_below n (2 ^ 31) h))
+    by_chain (IsRead prefix more (negsuc n)) (ltb n 32) (ltb n 128) (ltb n 32768) _ _ _ _ (λ e. minus_tiny prefix more n (ltb_below n 32 e)) (λ e. minus_8 prefix more n (ltb_below n 128 e))
+    (λ e. minus_16 prefix more n (ltb_below n 32768 e)) (minus_32 prefix more n (ltb_below n (2 ^ 31) h))

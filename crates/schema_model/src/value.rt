@@ -4,7 +4,7 @@ ghost use Rattle.schema_model.specs.Fits.{in_range, in_signed, in_unsigned};
 use crate::each_scalar;
 use crate::number::RefNum;
 use crate::scalar::ScalarKind;
-use lists::{Memory, Text};
+use lists::{Copied, Memory, Text};
 use std::alloc::Global;
 
 /// A value of a field or an item.
@@ -56,6 +56,12 @@ impl Value {
             Value::Truth(truth) => Ok(Value::Truth(*truth)),
             Value::Link(who) => Ok(Value::Link(*who)),
         }
+    }
+}
+
+impl Copied for Value {
+    fn copy(&self, alloc: Global) -> Result<Value, Memory> {
+        self.copy(alloc)
     }
 }
 

@@ -10,6 +10,7 @@ use Rattle.text_model.specs.declared.draft.Grouping.TheVariants.{Alone, Mapped, 
 use Rattle.text_model.specs.SchemaLines.{SchemaLine, ClassLine, FieldLine, RootLine, Tagging, is_item_word}
 use Rattle.text_model.specs.SchemaReading.{Draft, class_form, field_form, form_taken, line_taken, item_form, line_form, root_form, shape_form, tagging_form}
 use Rattle.text_model.specs.declared.fault.SchemaFault.TheVariants.{UnknownWord}
+use Rattle.text_model.proofs.Choices.{chosen_if}
 use Rattle.schema_reader.specs.Forms.{IsFormed}
 
 -- no form has seven words
@@ -23,12 +24,8 @@ line_form_take (a ∷ b ∷ c ∷ d ∷ e ∷ []) = refl
 line_form_take (a ∷ b ∷ c ∷ d ∷ e ∷ f ∷ []) = refl
 line_form_take (a ∷ b ∷ c ∷ d ∷ e ∷ f ∷ g ∷ ws) = refl
 
-some_if_some : {A : Type 0} (test : Bool) (x y : A) → some_if test x ≡ Some y → (test ≡ true) × (x ≡ y)
-some_if_some true x y e = (refl, cc)
-some_if_some false x y e = absurd (cc)
-
 formed_if : (test : Bool) (x l : SchemaLine) → some_if test x ≡ Some l → (test ≡ true → IsFormed x) → IsFormed l
-formed_if test x l e h = let p = some_if_some test x l e in subst (λ (y : SchemaLine). IsFormed y) p.1 (h p.0)
+formed_if test x l e h = let p = chosen_if test x l e in subst (λ (y : SchemaLine). IsFormed y) p.1 (h p.0)
 
 class_formed : (ws : List (List ℕ)) (l : SchemaLine) → class_form ws ≡ Some l → IsFormed l
 class_formed [] l e = absurd (cc)

@@ -1,6 +1,6 @@
-pub mod SlotLaws
-pub mod HeldLaws
 pub mod EntryLaws
-pub mod PlaceLaws
+pub mod HeldLaws
 pub mod KeyedLaws
+pub mod PlaceLaws
 pub mod SearchLaws
+pub mod SlotLaws

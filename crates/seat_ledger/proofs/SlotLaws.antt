@@ -5,6 +5,8 @@ use Rattle.std.specs.List.{insert, remove, prefix_len}
 use Rattle.std.specs.List.Sorted.{IsPartitionedBy, IsPartitionPoint}
 use Rattle.std.proofs.lemmas.Bool.Decides.{nat_tests}
 use Rattle.std.proofs.lemmas.List.Sums.{prefix_len_is}
+use Rattle.lists.proofs.Numbers.{one_up}
+use Rattle.lists.proofs.Tests.{or_false}
 use Rattle.seat_ledger.specs.declared.slot.Slot.{Slot}
 use Rattle.seat_ledger.specs.Slots.{IsFree, precedes, AreBehind, IsSorted, is_slot, has_slot, with_slot, without_slot, closed_slot}
 
@@ -53,23 +55,16 @@ behind_with a x (s ∷ ss) h k =
     = elim [ true ↦ (k.0, behind_with a x ss h k.1) | false ↦ (h, k) ] in
     go (precedes s x)
 
-either_false : (a b : Bool) → (a || b) ≡ false → (a ≡ false) × (b ≡ false)
-either_false true b h = cc
-either_false false b h = (refl, h)
-
 pub sorted_with : (x : Slot) (ss : List Slot) → IsSorted ss → has_slot x.key x.at ss ≡ false → IsSorted (with_slot x ss)
 sorted_with x [] k new = (tt, tt)
 sorted_with x (s ∷ ss) k new =
-    let apart = either_false (is_slot x.key x.at s) (has_slot x.key x.at ss) new in
+    let apart = or_false (is_slot x.key x.at s) (has_slot x.key x.at ss) new in
     let go : (b : Bool) → precedes s x ≡ b → IsSorted (cond b (s ∷ with_slot x ss) (x ∷ s ∷ ss))
     = elim [
       | true ↦ λ e. (behind_with s x ss e k.0, sorted_with x ss k.1 apart.1)
       | false ↦ λ e. (let before : precedes x s ≡ true = grind (arith, nat_tests, e, apart.0) in ((before, behind_too x s ss before k.0), k))
     ] in
     go (precedes s x) refl
-
-one_up : (n : ℕ) → 1 + n ≡ suc n
-one_up n = omega arith
 
 pub inserted : (x : Slot) (ss : List Slot) → insert ss (prefix_len (λ s. precedes s x) ss) x ≡ with_slot x ss
 inserted x [] = refl
@@ -164,10 +159,10 @@ length_closed at [] = refl
 length_closed at (s ∷ ss) = ap suc (length_closed at ss)
 
 pub not_of : (q at : ℕ) (s : Slot) (ss : List Slot) → IsFree at (s ∷ ss) → (s.at == at) ≡ false
-not_of q at s ss free = (let h = (either_false (is_slot s.key at s) (has_slot s.key at ss) (free s.key)).0 in grind (arith, nat_tests, h))
+not_of q at s ss free = (let h = (or_false (is_slot s.key at s) (has_slot s.key at ss) (free s.key)).0 in grind (arith, nat_tests, h))
 
 pub free_rest : (at : ℕ) (s : Slot) (ss : List Slot) → IsFree at (s ∷ ss) → IsFree at ss
-free_rest at s ss free q = (either_false (is_slot q at s) (has_slot q at ss) (free q)).1
+free_rest at s ss free q = (or_false (is_slot q at s) (has_slot q at ss) (free q)).1
 
 moved_down : (q p at : ℕ) (s : Slot) → (s.at == at) ≡ false → is_slot q p (closed_slot at s) ≡ is_slot q (cond (ltb p at) p (p + 1)) s
 moved_down q p at s h =

@@ -1,7 +1,7 @@
 pub mod Calls
-pub mod Slots
-pub mod Keys
 pub mod Held
-pub mod Places
 pub mod Keyed
+pub mod Keys
+pub mod Places
 pub mod Search
+pub mod Slots

@@ -19,7 +19,7 @@ use Rattle.state_model.specs.declared.place.Expected.{Expected}
 use Rattle.state_model.specs.declared.place.Expected.TheVariants.{Item as AnItem, Collection as ACollection}
 use Rattle.state_model.specs.Places.{empty_collection, same_kind, same_home, row_home, row_class}
 use Rattle.state_model.specs.Reached.{is_among}
-use Rattle.state_model.specs.Sound.{is_instance_of, is_collection_of, fits_place, has_kind}
+use Rattle.state_model.specs.Sound.{is_instance_of, is_collection_of, fits_place, has_kind, places_fit}
 use Rattle.state_laws.proofs.Numbers.{live_at}
 use Rattle.state_laws.proofs.ShownRows.{holds}
 
@@ -102,7 +102,8 @@ collection_elsewhere rows some home n k h =
     ap (is_collection_of home) k.3 ∙ ap (λ o. option_map_or (same_home home) o false) (sym (one_home k.0 k.1 k.4)) ∙ ap (is_collection_of home) (sym k.2) ∙ h
 
 -- a value that fits over some rows fits over others where the row that it leads to is of the same kind
-pub fits_elsewhere : (schema : Schema) (rows some : List RowEntry) (v : Value) (w : Option Expected) → ((m : ℕ) → is_among m (held_by v) ≡ true → (a b : Row) × (row_at rows m ≡ Some a) × (row_at some m ≡ Some b) × (emptied a ≡ emptied b)) → fits_place schema rows v w ≡ true → fits_place schema some v w ≡ true
+pub fits_elsewhere : (schema : Schema) (rows some : List RowEntry) (v : Value) (w : Option Expected)
+    → ((m : ℕ) → is_among m (held_by v) ≡ true → (a b : Row) × (row_at rows m ≡ Some a) × (row_at some m ≡ Some b) × (emptied a ≡ emptied b)) → fits_place schema rows v w ≡ true → fits_place schema some v w ≡ true
 fits_elsewhere schema rows some v None k h = h
 fits_elsewhere schema rows some v (Some (AnItem (item.Scalar s))) k h = h
 fits_elsewhere schema rows some (value.Link n) (Some (AnItem (item.Class c))) k h = instance_elsewhere schema rows some c n (k n (grind (arith, nat_tests))) h
@@ -151,3 +152,10 @@ fits_live schema rows m (value.Truth b) w h t = cc
 fits_live schema rows m (value.Link n) w h t =
     let same : n ≡ m = grind (arith, nat_tests) in
     ap (is_live rows) (sym same) ∙ link_live schema rows n w h
+
+-- a row without its places fits
+pub emptied_fits : (schema : Schema) (rows : List RowEntry) (r : Row) → places_fit schema rows (emptied r) ≡ true
+emptied_fits schema rows (Struct class fields) = refl
+emptied_fits schema rows (Map home items) = refl
+emptied_fits schema rows (Array home values) = grind (arith, nat_tests)
+emptied_fits schema rows (Set home items) = refl

@@ -5,6 +5,7 @@ use Rattle.std.specs.Str.{bytes_eq}
 use Rattle.std.proofs.lemmas.Bool.Decides.{nat_tests}
 use Rattle.lists.specs.Rising.{RisesFrom}
 use Rattle.lists.proofs.RisingLaws.{RisesFrom-filter}
+use Rattle.lists.proofs.Passing.{all_and_any, list_all_wider, list_all_filtered, list_any_filtered, list_any-flat_map, list_any-map, list_any-made, StandsIn}
 use Rattle.schema_model.specs.declared.value.Value.{Value}
 use Rattle.schema_model.specs.declared.place.Pair.{Pair}
 use Rattle.schema_model.specs.Classes.{Schema}
@@ -20,9 +21,7 @@ use Rattle.state_model.specs.Places.{field_expects, item_expects, is_filtered}
 use Rattle.state_model.specs.Reached.{is_among}
 use Rattle.state_model.specs.Sound.{rise, differ, keys_differ, fits_place, places_fit}
 use Rattle.state_model.specs.Shown.{shows_field, shows_item, shown_row}
-use Rattle.state_laws.proofs.Passing.{list_any-flat_map}
 use Rattle.std.proofs.lemmas.Bool.{and_parts, and_from}
-use Rattle.state_laws.proofs.Tests.{list_any-map, list_any-made, list_any_filtered, list_all_filtered, StandsIn, list_all_wider, all_and_any}
 use Rattle.state_laws.proofs.ShownRows.{holds}
 use Rattle.state_laws.proofs.Fitting.{OneKind, fits_elsewhere, fits_live}
 
@@ -112,7 +111,8 @@ places_elsewhere : {X : Type 0} (f : X → Value) (p q : X → Bool) (rows some 
 places_elsewhere f p q rows some xs each k h = list_all_wider p q xs (λ x s t. each x (λ m held. k m (held_place f xs x m s held)) t) h
 
 -- places that fit over some rows fit over others where the rows that they lead to are of the same kinds
-pub places_fit_elsewhere : (schema : Schema) (rows some : List RowEntry) (r : Row) → ((m : ℕ) → is_among m (held_in r) ≡ true → (a b : Row) × (row_at rows m ≡ Some a) × (row_at some m ≡ Some b) × (emptied a ≡ emptied b)) → places_fit schema rows r ≡ true → places_fit schema some r ≡ true
+pub places_fit_elsewhere : (schema : Schema) (rows some : List RowEntry) (r : Row) → ((m : ℕ) → is_among m (held_in r) ≡ true → (a b : Row) × (row_at rows m ≡ Some a) × (row_at some m ≡ Some b) × (emptied a ≡ emptied b))
+    → places_fit schema rows r ≡ true → places_fit schema some r ≡ true
 places_fit_elsewhere schema rows some (Struct class fields) k h =
     let p = λ (rs : List RowEntry) (f : FieldValue). fits_place schema rs f.value (field_expects schema class f.field) in
     let value = λ (f : FieldValue). f.value in

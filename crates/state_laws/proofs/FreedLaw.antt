@@ -3,12 +3,12 @@ use Rattle.std.proofs.Common.{◌≡◌, ℕ, zero, suc, ◌+◌, ◌<◌, ◌�
 use Rattle.std.proofs.lemmas.Bool.Decides.{nat_tests}
 use Rattle.lists.specs.Rising.{RisesFrom, find}
 use Rattle.lists.proofs.RisingLaws.{find-filter_kept, find-filter_passes, RisesFrom-filter, same_rising}
+use Rattle.lists.proofs.Passing.{length-filter_most, length-filter_less, list_any-found, length_within}
 use Rattle.state_model.specs.declared.row.Row.{Row}
 use Rattle.state_model.specs.declared.row.RowEntry.{RowEntry}
 use Rattle.state_model.specs.Rows.{number_of, row_at, is_live, held_in, rows_of}
 use Rattle.state_model.specs.Reached.{times, is_among, all_held, reached, HasNoCycle, swept_once, freed}
 use Rattle.state_laws.proofs.Joins.{Joined}
-use Rattle.state_laws.proofs.Passing.{list_any-found, length-filter_most, length-filter_less, length_within}
 use Rattle.state_laws.proofs.Numbers.{live_row, live_found, live_at, at_live, entry, row_found, found_row, found_same, held_by_row, holder_row}
 use Rattle.state_laws.proofs.ReachedLaws.{reached_start, reached_closed, reached_further, reached_held, no_way_back}
 
@@ -48,12 +48,15 @@ rank_most rows n = length-filter_most (λ (e : RowEntry). is_among e.who (reache
 rank_falls : (rows : List RowEntry) (a b : ℕ) (r : Row) → RisesFrom number_of 0 rows → HasNoCycle rows → row_at rows a ≡ Some r → is_among b (held_in r) ≡ true → rank rows b < rank rows a
 rank_falls rows a b r rise none s t =
     let there : is_among b (reached rows a) ≡ true = reached_closed rows a a b r rise (reached_start rows a) s t in
-    length-filter_less (λ (e : RowEntry). is_among e.who (reached rows b)) (λ (e : RowEntry). is_among e.who (reached rows a)) rows (λ e. reached_further rows a b e.who rise there) (list_any-found number_of (λ (e : RowEntry). is_among e.who (reached rows a) && not (is_among e.who (reached rows b))) rows a (entry a r) (row_found rows a r s) (grind (arith, nat_tests, reached_start rows a, no_way_back rows a b r none s t)))
+    length-filter_less (λ (e : RowEntry). is_among e.who (reached rows b)) (λ (e : RowEntry). is_among e.who (reached rows a)) rows (λ e. reached_further rows a b e.who rise there)
+    (list_any-found number_of (λ (e : RowEntry). is_among e.who (reached rows a) && not (is_among e.who (reached rows b))) rows a (entry a r) (row_found rows a r s)
+    (grind (arith, nat_tests, reached_start rows a, no_way_back rows a b r none s t)))
 
 -- a row that is there has a rank
 rank_some : (rows : List RowEntry) (n : ℕ) (r : Row) → row_at rows n ≡ Some r → 0 < rank rows n
 rank_some rows n r s =
-    let less = length-filter_less (λ (e : RowEntry). false) (λ (e : RowEntry). is_among e.who (reached rows n)) rows (λ e h. cc) (list_any-found number_of (λ (e : RowEntry). is_among e.who (reached rows n) && true) rows n (entry n r) (row_found rows n r s) (grind (arith, nat_tests, reached_start rows n))) in
+    let less = length-filter_less (λ (e : RowEntry). false) (λ (e : RowEntry). is_among e.who (reached rows n)) rows (λ e h. cc)
+    (list_any-found number_of (λ (e : RowEntry). is_among e.who (reached rows n) && true) rows n (entry n r) (row_found rows n r s) (grind (arith, nat_tests, reached_start rows n))) in
     omega (arith, less)
 
 -- what is left after some rounds: all that stays, and others of low rank
@@ -63,7 +66,8 @@ record Left (stay others now : List RowEntry) (k : ℕ) : Type 0 where
   within : (n : ℕ) (r : Row) → row_at now n ≡ Some r → is_live stay n ≡ false → (row_at others n ≡ Some r) × (rank others n + k ≤ length others)
 
 -- what stays isn't swept
-stay_held : {stay others all : List RowEntry} → Joined stay others all → (now : List RowEntry) → ((n : ℕ) (r : Row) → row_at stay n ≡ Some r → row_at now n ≡ Some r) → (n : ℕ) (r : Row) → row_at stay n ≡ Some r → (n == 0 || is_among n (all_held now)) ≡ true
+stay_held : {stay others all : List RowEntry} → Joined stay others all → (now : List RowEntry) → ((n : ℕ) (r : Row) → row_at stay n ≡ Some r → row_at now n ≡ Some r) → (n : ℕ) (r : Row)
+    → row_at stay n ≡ Some r → (n == 0 || is_among n (all_held now)) ≡ true
 stay_held {stay} j now kept n r s =
     elim (reached_held stay 0 n j.stay_rise (j.reach n (live_at stay n r s))) [
       | inl same ↦ grind (arith, nat_tests)

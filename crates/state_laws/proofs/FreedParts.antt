@@ -3,12 +3,12 @@ use Rattle.std.proofs.Common.{◌≡◌, ℕ, zero, suc, ◌≤◌, Bool, true, 
 use Rattle.std.proofs.lemmas.Bool.Decides.{nat_tests}
 use Rattle.lists.specs.Rising.{RisesFrom}
 use Rattle.lists.proofs.RisingLaws.{RisesFrom-filter}
+use Rattle.lists.proofs.Passing.{filter_all_or_less}
 use Rattle.state_model.specs.declared.row.Row.{Row}
 use Rattle.state_model.specs.declared.row.RowEntry.{RowEntry}
 use Rattle.state_model.specs.Rows.{number_of, row_at, is_live, held_in, rows_of}
 use Rattle.state_model.specs.Reached.{times, is_among, all_held, reached, HasNoCycle, swept_once, freed}
 use Rattle.state_laws.proofs.Joins.{Joined}
-use Rattle.state_laws.proofs.Passing.{filter_all_or_less}
 use Rattle.state_laws.proofs.Numbers.{live_row, live_chosen, row_chosen, held_by_row, holder_row}
 use Rattle.state_laws.proofs.ReachedLaws.{reached_start, reached_closed, reached_least, reached_held, no_cycle_fewer}
 use Rattle.state_laws.proofs.FreedLaw.{rounds_rise, freed_rises, swept_keeps, swept_from, freed_joined}
@@ -52,14 +52,16 @@ pub freed_link : (rows : List RowEntry) (n m : ℕ) (r q : Row) → RisesFrom nu
 freed_link rows n m r q rise s t u = rounds_link (length rows) rows n m r q rise s t u
 
 -- what row 0 leads to is held in rows that have it all
-still_held : (rows now : List RowEntry) (n : ℕ) → RisesFrom number_of 0 rows → ((a : ℕ) (r : Row) → is_among a (reached rows 0) ≡ true → row_at rows a ≡ Some r → row_at now a ≡ Some r) → is_among n (reached rows 0) ≡ true → (n == 0 || is_among n (all_held now)) ≡ true
+still_held : (rows now : List RowEntry) (n : ℕ) → RisesFrom number_of 0 rows → ((a : ℕ) (r : Row) → is_among a (reached rows 0) ≡ true → row_at rows a ≡ Some r → row_at now a ≡ Some r)
+    → is_among n (reached rows 0) ≡ true → (n == 0 || is_among n (all_held now)) ≡ true
 still_held rows now n rise kept h =
     elim (reached_held rows 0 n rise h) [
       | inl same ↦ grind (arith, nat_tests)
       | inr p ↦ grind (arith, nat_tests, held_by_row now p.0 n p.1 (kept p.0 p.1 p.2 p.3) p.4)
     ]
 
-rounds_keep : (k : ℕ) (rows now : List RowEntry) → RisesFrom number_of 0 rows → ((a : ℕ) (r : Row) → is_among a (reached rows 0) ≡ true → row_at rows a ≡ Some r → row_at now a ≡ Some r) → (n : ℕ) (r : Row) → is_among n (reached rows 0) ≡ true → row_at rows n ≡ Some r → row_at (times k swept_once now) n ≡ Some r
+rounds_keep : (k : ℕ) (rows now : List RowEntry) → RisesFrom number_of 0 rows → ((a : ℕ) (r : Row) → is_among a (reached rows 0) ≡ true → row_at rows a ≡ Some r → row_at now a ≡ Some r)
+    → (n : ℕ) (r : Row) → is_among n (reached rows 0) ≡ true → row_at rows n ≡ Some r → row_at (times k swept_once now) n ≡ Some r
 rounds_keep zero rows now rise kept n r h s = kept n r h s
 rounds_keep (suc k) rows now rise kept n r h s =
     rounds_keep k rows (swept_once now) rise (λ a q t u. swept_keeps now a q (kept a q t u) (still_held rows now a rise kept t)) n r h s
@@ -147,7 +149,8 @@ led_rises rows rise = RisesFrom-filter number_of 0 (λ (e : RowEntry). is_among 
 led_row : (rows : List RowEntry) (n : ℕ) (r : Row) → is_among n (reached rows 0) ≡ true → row_at rows n ≡ Some r → row_at (led rows) n ≡ Some r
 led_row rows n r h s = row_chosen (λ k. is_among k (reached rows 0)) rows n ∙ ap (λ b. cond b (row_at rows n) None) h ∙ s
 
-led_step : (rows : List RowEntry) (a b : ℕ) (r : Row) → RisesFrom number_of 0 rows → (is_among a (reached rows 0) && is_among a (reached (led rows) 0)) ≡ true → row_at rows a ≡ Some r → is_among b (held_in r) ≡ true → (is_among b (reached rows 0) && is_among b (reached (led rows) 0)) ≡ true
+led_step : (rows : List RowEntry) (a b : ℕ) (r : Row) → RisesFrom number_of 0 rows → (is_among a (reached rows 0) && is_among a (reached (led rows) 0)) ≡ true → row_at rows a ≡ Some r
+    → is_among b (held_in r) ≡ true → (is_among b (reached rows 0) && is_among b (reached (led rows) 0)) ≡ true
 led_step rows a b r rise k s t =
     let from : is_among a (reached rows 0) ≡ true = grind (arith, nat_tests) in
     let from_led : is_among a (reached (led rows) 0) ≡ true = grind (arith, nat_tests) in
@@ -158,7 +161,8 @@ led_step rows a b r rise k s t =
 -- whatever row 0 leads to, it leads to through rows that it leads to
 led_reached : (rows : List RowEntry) (n : ℕ) → RisesFrom number_of 0 rows → is_among n (reached rows 0) ≡ true → is_among n (reached (led rows) 0) ≡ true
 led_reached rows n rise h =
-    let both : (is_among n (reached rows 0) && is_among n (reached (led rows) 0)) ≡ true = reached_least rows 0 (λ k. is_among k (reached rows 0) && is_among k (reached (led rows) 0)) rise (grind (arith, nat_tests, reached_start rows 0, reached_start (led rows) 0)) (λ a b r k s t. led_step rows a b r rise k s t) n h in
+    let both : (is_among n (reached rows 0) && is_among n (reached (led rows) 0)) ≡ true =
+    reached_least rows 0 (λ k. is_among k (reached rows 0) && is_among k (reached (led rows) 0)) rise (grind (arith, nat_tests, reached_start rows 0, reached_start (led rows) 0)) (λ a b r k s t. led_step rows a b r rise k s t) n h in
     grind (arith, nat_tests)
 
 led_there : (rows : List RowEntry) (n : ℕ) → is_among n (reached rows 0) ≡ true → is_live rows n ≡ true → is_live (led rows) n ≡ true
@@ -184,11 +188,13 @@ led_joined rows rise none links root = record {
 }
 
 -- where there is no cycle and each held row is there, the rows that row 0 leads to are left
-pub freed_led : (rows : List RowEntry) → RisesFrom number_of 0 rows → HasNoCycle rows → ((n m : ℕ) (r : Row) → row_at rows n ≡ Some r → is_among m (held_in r) ≡ true → is_live rows m ≡ true) → is_live rows 0 ≡ true → freed rows ≡ rows_of (reached rows 0) rows
+pub freed_led : (rows : List RowEntry) → RisesFrom number_of 0 rows → HasNoCycle rows → ((n m : ℕ) (r : Row) → row_at rows n ≡ Some r → is_among m (held_in r) ≡ true → is_live rows m ≡ true)
+    → is_live rows 0 ≡ true → freed rows ≡ rows_of (reached rows 0) rows
 freed_led rows rise none links root = freed_joined (led rows) (unled rows) rows (led_joined rows rise none links root)
 
 -- there a row is left exactly where it was there and is reached from 0
-pub freed_live : (rows : List RowEntry) (n : ℕ) → RisesFrom number_of 0 rows → HasNoCycle rows → ((n m : ℕ) (r : Row) → row_at rows n ≡ Some r → is_among m (held_in r) ≡ true → is_live rows m ≡ true) → is_live rows 0 ≡ true → is_live (freed rows) n ≡ (is_live rows n && is_among n (reached rows 0))
+pub freed_live : (rows : List RowEntry) (n : ℕ) → RisesFrom number_of 0 rows → HasNoCycle rows → ((n m : ℕ) (r : Row) → row_at rows n ≡ Some r → is_among m (held_in r) ≡ true → is_live rows m ≡ true)
+    → is_live rows 0 ≡ true → is_live (freed rows) n ≡ (is_live rows n && is_among n (reached rows 0))
 freed_live rows n rise none links root =
     let chosen = live_chosen (λ k. is_among k (reached rows 0)) rows n in
     ap (λ rs. is_live rs n) (freed_led rows rise none links root) ∙ chosen ∙ grind (arith, nat_tests)

@@ -7,11 +7,12 @@ use Rattle.lists.specs.Rising.{RisesFrom, find}
 use Rattle.lists.proofs.RisingLaws.{find_key, RisesFrom-put}
 use Rattle.state_model.specs.declared.row.Row.{Row}
 use Rattle.state_model.specs.declared.row.RowEntry.{RowEntry}
-use Rattle.state_model.specs.Rows.{number_of, row_at, is_live, held_in, rows_of}
+use Rattle.state_model.specs.Rows.{number_of, row_at, is_live, held_in, put_row, rows_of}
 use Rattle.state_model.specs.Reached.{is_among, with_number, with_numbers, all_held, grown}
-use Rattle.state_laws.proofs.Passing.{list_any-flat_map, list_any-filter, list_any-found, found_passing}
 use Rattle.std.proofs.lemmas.Bool.{and_parts}
 use Rattle.std.proofs.lemmas.List.Folds.{list_any-append}
+use Rattle.lists.proofs.Options.{mapped_some, mapped_none}
+use Rattle.lists.proofs.Passing.{list_any-found, found_passing, list_any-filter, list_any-flat_map}
 
 -- a number that is there and passes is one that passes
 pub among_passes : (p : ℕ → Bool) (ns : List ℕ) (n : ℕ) → is_among n ns ≡ true → p n ≡ true → list_any p ns ≡ true
@@ -56,15 +57,6 @@ live_found (e ∷ rows) n = grind (arith, nat_tests, live_found rows n)
 pub live_row : (rows : List RowEntry) (n : ℕ) → is_live rows n ≡ is_some (row_at rows n)
 live_row [] n = refl
 live_row (e ∷ rows) n = grind (arith, nat_tests, live_row rows n)
-
--- what is made of an item is made of a present one
-pub mapped_some : {A B : Type 0} (f : A → B) (o : Option A) (b : B) → option_map f o ≡ Some b → (a : A) × (o ≡ Some a) × (f a ≡ b)
-mapped_some f None b h = cc
-mapped_some f (Some a) b h = (a, refl, cc)
-
-mapped_none : {A B : Type 0} (f : A → B) (o : Option A) → option_map f o ≡ None → o ≡ None
-mapped_none f None h = refl
-mapped_none f (Some a) h = cc
 
 -- a row with its number
 abbrev pub entry : ℕ → Row → RowEntry
@@ -156,3 +148,7 @@ holder_row rows b rise h =
 -- a step adds what the rows of the numbers hold
 pub among_grown : (rows : List RowEntry) (ns : List ℕ) (k : ℕ) → is_among k (grown rows ns) ≡ (is_among k ns || is_held_in rows ns k)
 among_grown rows ns k = among_with ns (all_held (rows_of ns rows)) k ∙ ap (λ b. is_among k ns || b) (among_held_of ns rows k)
+
+-- rows rise where one is put
+pub put_rises : (rows : List RowEntry) (who : ℕ) (row : Row) → RisesFrom number_of 0 rows → RisesFrom number_of 0 (put_row who row rows)
+put_rises rows who row rise = RisesFrom-put number_of 0 (entry who row) rows rise (omega arith)

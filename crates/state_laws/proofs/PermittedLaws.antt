@@ -21,7 +21,8 @@ pub permitted_rises : (schema : Schema) (rows : List RowEntry) (M : List Pair) �
 permitted_rises schema rows M rise = RisesFrom-filter number_of 0 (λ (e : RowEntry). is_among e.who (reached (shown schema M rows) 0)) (shown schema M rows) (shown_rises schema M 0 rows rise)
 
 -- at a number stands what its row shows, where the number is reached through what rows show
-pub permitted_row : (schema : Schema) (rows : List RowEntry) (M : List Pair) (n : ℕ) → RisesFrom number_of 0 rows → row_at (permitted schema rows M) n ≡ cond (is_among n (reached (shown schema M rows) 0)) (option_map (shown_row schema M n) (row_at rows n)) None
+pub permitted_row : (schema : Schema) (rows : List RowEntry) (M : List Pair) (n : ℕ) → RisesFrom number_of 0 rows
+    → row_at (permitted schema rows M) n ≡ cond (is_among n (reached (shown schema M rows) 0)) (option_map (shown_row schema M n) (row_at rows n)) None
 permitted_row schema rows M n rise =
     row_chosen (λ k. is_among k (reached (shown schema M rows) 0)) (shown schema M rows) n ∙ ap (λ o. cond (is_among n (reached (shown schema M rows) 0)) o None) (shown_at schema M rows n)
 
@@ -32,12 +33,14 @@ made_from f true None p h = cc
 made_from f true (Some a) p h = (a, refl, cc, refl)
 
 -- a permitted row is what a row of its number shows, and the number is reached through what rows show
-pub permitted_from : (schema : Schema) (rows : List RowEntry) (M : List Pair) (n : ℕ) (p : Row) → RisesFrom number_of 0 rows → row_at (permitted schema rows M) n ≡ Some p → (r : Row) × (row_at rows n ≡ Some r) × (p ≡ shown_row schema M n r) × (is_among n (reached (shown schema M rows) 0) ≡ true)
+pub permitted_from : (schema : Schema) (rows : List RowEntry) (M : List Pair) (n : ℕ) (p : Row) → RisesFrom number_of 0 rows → row_at (permitted schema rows M) n ≡ Some p
+    → (r : Row) × (row_at rows n ≡ Some r) × (p ≡ shown_row schema M n r) × (is_among n (reached (shown schema M rows) 0) ≡ true)
 permitted_from schema rows M n p rise h =
     made_from (shown_row schema M n) (is_among n (reached (shown schema M rows) 0)) (row_at rows n) p (sym (permitted_row schema rows M n rise) ∙ h)
 
 -- what a row shows is permitted where its number is reached through what rows show
-pub permitted_at : (schema : Schema) (rows : List RowEntry) (M : List Pair) (n : ℕ) (r : Row) → RisesFrom number_of 0 rows → row_at rows n ≡ Some r → is_among n (reached (shown schema M rows) 0) ≡ true → row_at (permitted schema rows M) n ≡ Some (shown_row schema M n r)
+pub permitted_at : (schema : Schema) (rows : List RowEntry) (M : List Pair) (n : ℕ) (r : Row) → RisesFrom number_of 0 rows → row_at rows n ≡ Some r → is_among n (reached (shown schema M rows) 0) ≡ true
+    → row_at (permitted schema rows M) n ≡ Some (shown_row schema M n r)
 permitted_at schema rows M n r rise s t =
     permitted_row schema rows M n rise ∙ ap (λ b. cond b (option_map (shown_row schema M n) (row_at rows n)) None) t ∙ ap (option_map (shown_row schema M n)) s
 
@@ -52,11 +55,13 @@ pub shown_there : (schema : Schema) (rows : List RowEntry) (M : List Pair) (n : 
 shown_there schema rows M n r h = shown_at schema M rows n ∙ ap (option_map (shown_row schema M n)) h
 
 -- what a row that is reached shows a link to is reached
-reached_on : (schema : Schema) (rows : List RowEntry) (M : List Pair) (n m : ℕ) (r : Row) → RisesFrom number_of 0 rows → is_among n (reached (shown schema M rows) 0) ≡ true → row_at rows n ≡ Some r → is_among m (held_in (shown_row schema M n r)) ≡ true → is_among m (reached (shown schema M rows) 0) ≡ true
+reached_on : (schema : Schema) (rows : List RowEntry) (M : List Pair) (n m : ℕ) (r : Row) → RisesFrom number_of 0 rows → is_among n (reached (shown schema M rows) 0) ≡ true
+    → row_at rows n ≡ Some r → is_among m (held_in (shown_row schema M n r)) ≡ true → is_among m (reached (shown schema M rows) 0) ≡ true
 reached_on schema rows M n m r rise h s t = reached_closed (shown schema M rows) 0 n m (shown_row schema M n r) (shown_rises schema M 0 rows rise) h (shown_there schema rows M n r s) t
 
 -- a permitted row's links lead to permitted rows
-pub permitted_links : (schema : Schema) (rows : List RowEntry) (M : List Pair) → RisesFrom number_of 0 rows → ((n m : ℕ) (r : Row) → row_at rows n ≡ Some r → is_among m (held_in r) ≡ true → is_live rows m ≡ true) → (n m : ℕ) (p : Row) → row_at (permitted schema rows M) n ≡ Some p → is_among m (held_in p) ≡ true → is_live (permitted schema rows M) m ≡ true
+pub permitted_links : (schema : Schema) (rows : List RowEntry) (M : List Pair) → RisesFrom number_of 0 rows → ((n m : ℕ) (r : Row) → row_at rows n ≡ Some r → is_among m (held_in r) ≡ true → is_live rows m ≡ true)
+    → (n m : ℕ) (p : Row) → row_at (permitted schema rows M) n ≡ Some p → is_among m (held_in p) ≡ true → is_live (permitted schema rows M) m ≡ true
 permitted_links schema rows M rise links n m p s t =
     let from = permitted_from schema rows M n p rise s in
     let held : is_among m (held_in (shown_row schema M n from.0)) ≡ true = ap (λ r. is_among m (held_in r)) (sym from.2) ∙ t in
@@ -68,7 +73,8 @@ abbrev in_both : Schema → List RowEntry → List Pair → ℕ → Bool
 in_both schema rows M n = is_among n (reached (shown schema M rows) 0) && is_among n (reached (permitted schema rows M) 0)
 
 -- what a row that is there in both ways shows is reached in both ways
-in_both_on : (schema : Schema) (rows : List RowEntry) (M : List Pair) → RisesFrom number_of 0 rows → (a b : ℕ) (r : Row) → in_both schema rows M a ≡ true → row_at (shown schema M rows) a ≡ Some r → is_among b (held_in r) ≡ true → in_both schema rows M b ≡ true
+in_both_on : (schema : Schema) (rows : List RowEntry) (M : List Pair) → RisesFrom number_of 0 rows → (a b : ℕ) (r : Row) → in_both schema rows M a ≡ true → row_at (shown schema M rows) a ≡ Some r
+    → is_among b (held_in r) ≡ true → in_both schema rows M b ≡ true
 in_both_on schema rows M rise a b r h s t =
     let sides = and_parts (is_among a (reached (shown schema M rows) 0)) (is_among a (reached (permitted schema rows M) 0)) h in
     let stands : row_at (permitted schema rows M) a ≡ Some r = row_chosen (λ k. is_among k (reached (shown schema M rows) 0)) (shown schema M rows) a ∙ ap (λ x. cond x (row_at (shown schema M rows) a) None) sides.0 ∙ s in
@@ -77,7 +83,8 @@ in_both_on schema rows M rise a b r h s t =
     (reached_closed (permitted schema rows M) 0 a b r (permitted_rises schema rows M rise) sides.1 stands t)
 
 -- every permitted row is reached over the permitted rows
-pub permitted_reached : (schema : Schema) (rows : List RowEntry) (M : List Pair) → RisesFrom number_of 0 rows → ((n m : ℕ) (r : Row) → row_at rows n ≡ Some r → is_among m (held_in r) ≡ true → is_live rows m ≡ true) → is_live rows 0 ≡ true → (n : ℕ) → is_live (permitted schema rows M) n ≡ true → is_among n (reached (permitted schema rows M) 0) ≡ true
+pub permitted_reached : (schema : Schema) (rows : List RowEntry) (M : List Pair) → RisesFrom number_of 0 rows → ((n m : ℕ) (r : Row) → row_at rows n ≡ Some r → is_among m (held_in r) ≡ true → is_live rows m ≡ true)
+    → is_live rows 0 ≡ true → (n : ℕ) → is_live (permitted schema rows M) n ≡ true → is_among n (reached (permitted schema rows M) 0) ≡ true
 permitted_reached schema rows M rise links root n h =
     let row = at_live (permitted schema rows M) n h in
     let from = permitted_from schema rows M n row.0 rise row.1 in
@@ -86,12 +93,15 @@ permitted_reached schema rows M rise links root n h =
     (and_parts (is_among n (reached (shown schema M rows) 0)) (is_among n (reached (permitted schema rows M) 0)) sides).1
 
 -- what is reached in rows that hold no more than others is reached in those
-pub reached_within : (some rows : List RowEntry) → RisesFrom number_of 0 some → RisesFrom number_of 0 rows → ((n m : ℕ) (a : Row) → row_at some n ≡ Some a → is_among m (held_in a) ≡ true → (b : Row) × (row_at rows n ≡ Some b) × (is_among m (held_in b) ≡ true)) → (from m : ℕ) → is_among m (reached some from) ≡ true → is_among m (reached rows from) ≡ true
+pub reached_within : (some rows : List RowEntry) → RisesFrom number_of 0 some → RisesFrom number_of 0 rows
+    → ((n m : ℕ) (a : Row) → row_at some n ≡ Some a → is_among m (held_in a) ≡ true → (b : Row) × (row_at rows n ≡ Some b) × (is_among m (held_in b) ≡ true)) → (from m : ℕ)
+    → is_among m (reached some from) ≡ true → is_among m (reached rows from) ≡ true
 reached_within some rows rise_some rise within from m h =
     reached_least some from (λ n. is_among n (reached rows from)) rise_some (reached_start rows from) (λ a b r k s t. let more = within a b r s t in reached_closed rows from a b more.0 rise k more.1 more.2) m h
 
 -- rows that hold no more than rows without a cycle have none
-pub no_cycle_within : (some rows : List RowEntry) → RisesFrom number_of 0 some → RisesFrom number_of 0 rows → ((n m : ℕ) (a : Row) → row_at some n ≡ Some a → is_among m (held_in a) ≡ true → (b : Row) × (row_at rows n ≡ Some b) × (is_among m (held_in b) ≡ true)) → HasNoCycle rows → HasNoCycle some
+pub no_cycle_within : (some rows : List RowEntry) → RisesFrom number_of 0 some → RisesFrom number_of 0 rows
+    → ((n m : ℕ) (a : Row) → row_at some n ≡ Some a → is_among m (held_in a) ≡ true → (b : Row) × (row_at rows n ≡ Some b) × (is_among m (held_in b) ≡ true)) → HasNoCycle rows → HasNoCycle some
 no_cycle_within some rows rise_some rise within none =
     no_cycle_from some rise_some (λ a b r s t. let more = within a b r s t in grind (arith, nat_tests, reached_within some rows rise_some rise within b a, no_way_back rows a b more.0 none more.1 more.2))
 

@@ -3,11 +3,11 @@ use Rattle.std.proofs.Common.{◌≡◌, ℕ, zero, suc, ◌<◌, Bool, true, fa
 use Rattle.std.specs.List.{list_any}
 use Rattle.std.proofs.lemmas.Bool.Decides.{nat_tests}
 use Rattle.lists.specs.Rising.{RisesFrom}
+use Rattle.lists.proofs.Passing.{length-filter_most, length-filter_less, list_any_narrower, list_any-found, found_passing}
 use Rattle.state_model.specs.declared.row.Row.{Row}
 use Rattle.state_model.specs.declared.row.RowEntry.{RowEntry}
 use Rattle.state_model.specs.Rows.{number_of, row_at, is_live, held_in, rows_of}
 use Rattle.state_model.specs.Reached.{times, is_among, all_held, grown, reached, is_in_cycle, HasNoCycle}
-use Rattle.state_laws.proofs.Passing.{list_any-found, found_passing, list_any_narrower, length-filter_most, length-filter_less}
 use Rattle.state_laws.proofs.Numbers.{among_passes, passing_among, rises_with, live_row, entry, row_found, found_row, is_held_in, held_in_row, row_holding, among_grown}
 
 -- numbers that have what their rows hold
@@ -27,7 +27,8 @@ grown_adds : (rows : List RowEntry) (ns : List ℕ) (a b : ℕ) (r : Row) → is
 grown_adds rows ns a b r h s t = grind (arith, nat_tests, among_grown rows ns b, held_in_row rows ns a b r h s t)
 
 -- a step adds nothing else
-grown_from : (rows : List RowEntry) (ns : List ℕ) (b : ℕ) → RisesFrom number_of 0 rows → is_among b (grown rows ns) ≡ true → (is_among b ns ≡ true) ⊎ ((a : ℕ) × (r : Row) × (is_among a ns ≡ true) × (row_at rows a ≡ Some r) × (is_among b (held_in r) ≡ true))
+grown_from : (rows : List RowEntry) (ns : List ℕ) (b : ℕ) → RisesFrom number_of 0 rows → is_among b (grown rows ns) ≡ true
+    → (is_among b ns ≡ true) ⊎ ((a : ℕ) × (r : Row) × (is_among a ns ≡ true) × (row_at rows a ≡ Some r) × (is_among b (held_in r) ≡ true))
 grown_from rows ns b rise h =
     elim (either_true (is_among b ns) (is_held_in rows ns b) (sym (among_grown rows ns b) ∙ h)) [ inl t ↦ inl t | inr t ↦ inr (row_holding rows ns b rise t) ]
 
@@ -47,7 +48,8 @@ reached_start rows n = times_keep rows (length rows) (n ∷ []) n (grind (arith,
 pub reached_rises : (rows : List RowEntry) (n : ℕ) → RisesFrom (λ m. m) 0 (reached rows n)
 reached_rises rows n = times_rise rows (length rows) (n ∷ []) (omega arith, tt)
 
-times_least : (rows : List RowEntry) (keep : ℕ → Bool) → RisesFrom number_of 0 rows → ((a b : ℕ) (r : Row) → keep a ≡ true → row_at rows a ≡ Some r → is_among b (held_in r) ≡ true → keep b ≡ true) → (k : ℕ) (ns : List ℕ) → ((m : ℕ) → is_among m ns ≡ true → keep m ≡ true) → (m : ℕ) → is_among m (times k (grown rows) ns) ≡ true → keep m ≡ true
+times_least : (rows : List RowEntry) (keep : ℕ → Bool) → RisesFrom number_of 0 rows → ((a b : ℕ) (r : Row) → keep a ≡ true → row_at rows a ≡ Some r → is_among b (held_in r) ≡ true → keep b ≡ true)
+    → (k : ℕ) (ns : List ℕ) → ((m : ℕ) → is_among m ns ≡ true → keep m ≡ true) → (m : ℕ) → is_among m (times k (grown rows) ns) ≡ true → keep m ≡ true
 times_least rows keep rise step zero ns all m h = all m h
 times_least rows keep rise step (suc k) ns all m h =
     times_least rows keep rise step k (grown rows ns) (λ b t. elim (grown_from rows ns b rise t) [ inl old ↦ all b old | inr new ↦ step new.0 b new.1 (all new.0 new.2) new.3 new.4 ]) m h
@@ -58,7 +60,8 @@ only_start from n keep h t =
     ap keep (sym same) ∙ h
 
 -- what the start has and rows hand on has all that is reached
-pub reached_least : (rows : List RowEntry) (from : ℕ) (keep : ℕ → Bool) → RisesFrom number_of 0 rows → keep from ≡ true → ((a b : ℕ) (r : Row) → keep a ≡ true → row_at rows a ≡ Some r → is_among b (held_in r) ≡ true → keep b ≡ true) → (m : ℕ) → is_among m (reached rows from) ≡ true → keep m ≡ true
+pub reached_least : (rows : List RowEntry) (from : ℕ) (keep : ℕ → Bool) → RisesFrom number_of 0 rows → keep from ≡ true
+    → ((a b : ℕ) (r : Row) → keep a ≡ true → row_at rows a ≡ Some r → is_among b (held_in r) ≡ true → keep b ≡ true) → (m : ℕ) → is_among m (reached rows from) ≡ true → keep m ≡ true
 reached_least rows from keep rise start step m h =
     times_least rows keep rise step (length rows) (from ∷ []) (λ n t. only_start from n keep start t) m h
 
@@ -92,7 +95,8 @@ settled rows ns f a b r h s t =
     let go : (x : Bool) → is_among a ns ≡ x → is_among b (grown rows ns) ≡ true = elim [
       | true ↦ λ old. grown_adds rows ns a b r old s t
       | false ↦ λ new.
-          let adds : adds_row rows ns ≡ true = list_any-found number_of (λ (e : RowEntry). not (is_among e.who ns) && not (not (is_among e.who (grown rows ns)))) rows a (entry a r) (row_found rows a r s) (new_number (is_among a ns) (is_among a (grown rows ns)) new h) in
+          let adds : adds_row rows ns ≡ true = list_any-found number_of (λ (e : RowEntry). not (is_among e.who ns) && not (not (is_among e.who (grown rows ns)))) rows a (entry a r)
+          (row_found rows a r s) (new_number (is_among a ns) (is_among a (grown rows ns)) new h) in
           cc
     ] in
     go (is_among a ns) refl
@@ -109,7 +113,8 @@ times_settle rows (suc k) ns rise h =
 -- where the start has a row, fewer rows than all are missing
 start_there : (rows : List RowEntry) (from : ℕ) → is_live rows from ≡ true → missing rows (from ∷ []) < length rows
 start_there rows from h =
-    let there : list_any (λ (e : RowEntry). true && not (not (is_among e.who (from ∷ [])))) rows ≡ true = list_any_narrower (λ (e : RowEntry). e.who == from) (λ (e : RowEntry). true && not (not (is_among e.who (from ∷ [])))) rows (λ e. grind (arith, nat_tests)) h in
+    let there : list_any (λ (e : RowEntry). true && not (not (is_among e.who (from ∷ [])))) rows ≡ true =
+    list_any_narrower (λ (e : RowEntry). e.who == from) (λ (e : RowEntry). true && not (not (is_among e.who (from ∷ [])))) rows (λ e. grind (arith, nat_tests)) h in
     let less = length-filter_less (λ (e : RowEntry). not (is_among e.who (from ∷ []))) (λ (e : RowEntry). true) rows (λ e t. refl) there in
     omega (arith, less, length-filter_most (λ (e : RowEntry). true) rows)
 
@@ -150,7 +155,8 @@ start_or_held rows from m rise h =
     reached_least rows from (λ n. n == from || is_held_in rows (reached rows from) n) rise (grind (arith, nat_tests)) (λ a b r k s t. grind (arith, nat_tests, held_in_row rows (reached rows from) a b r (held_reached rows from a rise k) s t)) m h
 
 -- what is reached is the start, or a reached row holds it
-pub reached_held : (rows : List RowEntry) (from m : ℕ) → RisesFrom number_of 0 rows → is_among m (reached rows from) ≡ true → (m ≡ from) ⊎ ((a : ℕ) × (r : Row) × (is_among a (reached rows from) ≡ true) × (row_at rows a ≡ Some r) × (is_among m (held_in r) ≡ true))
+pub reached_held : (rows : List RowEntry) (from m : ℕ) → RisesFrom number_of 0 rows → is_among m (reached rows from) ≡ true
+    → (m ≡ from) ⊎ ((a : ℕ) × (r : Row) × (is_among a (reached rows from) ≡ true) × (row_at rows a ≡ Some r) × (is_among m (held_in r) ≡ true))
 reached_held rows from m rise h =
     elim (either_true (m == from) (is_held_in rows (reached rows from) m) (start_or_held rows from m rise h)) [
       | inl t ↦ inl (grind (arith, nat_tests))
@@ -184,7 +190,8 @@ no_cycle_from rows rise apart =
     go (list_any (is_in_cycle rows) rows) refl
 
 -- what is reached in some of the rows is reached in all of them
-pub reached_fewer : (some rows : List RowEntry) → RisesFrom number_of 0 some → RisesFrom number_of 0 rows → ((n : ℕ) (r : Row) → row_at some n ≡ Some r → row_at rows n ≡ Some r) → (from m : ℕ) → is_among m (reached some from) ≡ true → is_among m (reached rows from) ≡ true
+pub reached_fewer : (some rows : List RowEntry) → RisesFrom number_of 0 some → RisesFrom number_of 0 rows → ((n : ℕ) (r : Row) → row_at some n ≡ Some r → row_at rows n ≡ Some r)
+    → (from m : ℕ) → is_among m (reached some from) ≡ true → is_among m (reached rows from) ≡ true
 reached_fewer some rows rise_some rise within from m h = reached_least some from (λ n. is_among n (reached rows from)) rise_some (reached_start rows from) (λ a b r k s t. reached_closed rows from a b r rise k (within a r s) t) m h
 
 -- some of the rows have no cycle where all have none

@@ -3,6 +3,7 @@ use Rattle.std.proofs.Common.{◌≡◌, ℕ, Bool, true, false, ◌&&◌, ◌==
 use Rattle.std.specs.List.{list_all}
 use Rattle.std.specs.Option.{option_map_or}
 use Rattle.lists.specs.Rising.{RisesFrom}
+use Rattle.lists.proofs.Passing.{all-found, found-all}
 use Rattle.schema_model.specs.declared.place.Pair.{Pair}
 use Rattle.schema_model.specs.Classes.{Schema}
 use Rattle.state_model.specs.declared.row.Row.{Row}
@@ -12,7 +13,6 @@ use Rattle.state_model.specs.Reached.{is_among}
 use Rattle.state_model.specs.Sound.{rise, has_root, has_kind, places_fit, are_rows_of}
 use Rattle.state_model.specs.Shown.{shown_row, shown, permitted}
 use Rattle.std.proofs.lemmas.Bool.{and_parts, and_from}
-use Rattle.state_laws.proofs.Tests.{all-found, found-all}
 use Rattle.state_laws.proofs.Numbers.{live_at, at_live, entry, row_found, found_row}
 use Rattle.state_laws.proofs.ReachedLaws.{reached_start}
 use Rattle.state_laws.proofs.ShownRows.{shown_kind}
@@ -63,7 +63,8 @@ permitted_root_class schema rows M h =
     ap (has_root schema) stands ∙ ap (λ o. option_map_or (λ c. c == schema.root) o false) (same_class (shown_row schema M 0 root.0) root.0 (shown_kind schema M 0 root.0)) ∙ ap (has_root schema) (sym root.1) ∙ (parts schema rows h).1
 
 -- where a permitted row leads, stands a row of the kind that stood there
-permitted_one_kind : (schema : Schema) (rows : List RowEntry) (M : List Pair) → are_rows_of schema rows ≡ true → (n : ℕ) (p : Row) → row_at (permitted schema rows M) n ≡ Some p → (m : ℕ) → is_among m (held_in p) ≡ true → OneKind rows (permitted schema rows M) m
+permitted_one_kind : (schema : Schema) (rows : List RowEntry) (M : List Pair) → are_rows_of schema rows ≡ true → (n : ℕ) (p : Row) → row_at (permitted schema rows M) n ≡ Some p
+    → (m : ℕ) → is_among m (held_in p) ≡ true → OneKind rows (permitted schema rows M) m
 permitted_one_kind schema rows M h n p s m t =
     let rise = rows_rise schema rows h in
     let there = at_live (permitted schema rows M) m (permitted_links schema rows M rise (rows_links schema rows h) n m p s t) in
@@ -71,7 +72,8 @@ permitted_one_kind schema rows M h n p s m t =
     (from.0, there.0, from.1, there.1, sym (ap emptied from.2 ∙ shown_kind schema M m from.0))
 
 -- a permitted row is of a declared kind, and its places fit over the permitted rows
-permitted_row_fits : (schema : Schema) (rows : List RowEntry) (M : List Pair) → are_rows_of schema rows ≡ true → (n : ℕ) (p : Row) → row_at (permitted schema rows M) n ≡ Some p → (has_kind schema p && places_fit schema (permitted schema rows M) p) ≡ true
+permitted_row_fits : (schema : Schema) (rows : List RowEntry) (M : List Pair) → are_rows_of schema rows ≡ true → (n : ℕ) (p : Row) → row_at (permitted schema rows M) n ≡ Some p
+    → (has_kind schema p && places_fit schema (permitted schema rows M) p) ≡ true
 permitted_row_fits schema rows M h n p s =
     let from = permitted_from schema rows M n p (rows_rise schema rows h) s in
     let old = rows_fit schema rows h n from.0 from.1 in

@@ -8,14 +8,14 @@ use Rattle.schema_model.specs.declared.value.Value.TheVariants.{Whole, Str, Trut
 use Rattle.schema_model.specs.Values.{same_whole, same_truth, same_value}
 
 -- whole numbers that the test takes for equal are equal
-whole_is : (a b : ℤ) → same_whole a b ≡ true → a ≡ b
+pub whole_is : (a b : ℤ) → same_whole a b ≡ true → a ≡ b
 whole_is (pos a) (pos b) h = ap pos (grind (arith, nat_tests))
 whole_is (pos a) (negsuc b) h = cc
 whole_is (negsuc a) (pos b) h = cc
 whole_is (negsuc a) (negsuc b) h = ap negsuc (grind (arith, nat_tests))
 
 -- a whole number passes the test with itself
-whole_self : (a : ℤ) → same_whole a a ≡ true
+pub whole_self : (a : ℤ) → same_whole a a ≡ true
 whole_self (pos a) = grind (arith, nat_tests)
 whole_self (negsuc a) = grind (arith, nat_tests)
 

@@ -142,7 +142,8 @@ shared_reached schema rows M rise n h =
     0 n h
 
 -- a row of the shared view is permitted to any members, as a row of its kind that has each of its places
-pub shared_within : (schema : Schema) (rows : List RowEntry) (M : List Pair) (n : ℕ) (a : Row) → RisesFrom number_of 0 rows → row_at (shared schema rows) n ≡ Some a → (b : Row) × (row_at (permitted schema rows M) n ≡ Some b) × (emptied a ≡ emptied b) × Within a b
+pub shared_within : (schema : Schema) (rows : List RowEntry) (M : List Pair) (n : ℕ) (a : Row) → RisesFrom number_of 0 rows → row_at (shared schema rows) n ≡ Some a
+    → (b : Row) × (row_at (permitted schema rows M) n ≡ Some b) × (emptied a ≡ emptied b) × Within a b
 shared_within schema rows M n a rise h =
     let from = permitted_from schema rows [] n a rise h in
     let b = shown_row schema M n from.0 in (

@@ -4,6 +4,7 @@ use Rattle.std.specs.Option.{option_map}
 use Rattle.std.specs.List.{flat_map}
 use Rattle.std.proofs.lemmas.Bool.Decides.{nat_tests}
 use Rattle.lists.specs.Rising.{RisesFrom}
+use Rattle.lists.proofs.Passing.{list_any_filtered, list_any-flat_map, list_any-made}
 use Rattle.schema_model.specs.declared.value.Value.{Value}
 use Rattle.schema_model.specs.declared.place.Pair.{Pair}
 use Rattle.schema_model.specs.Classes.{Schema}
@@ -17,8 +18,6 @@ use Rattle.state_model.specs.Values.{held_by}
 use Rattle.state_model.specs.Rows.{number_of, row_at, held_in, emptied}
 use Rattle.state_model.specs.Reached.{is_among}
 use Rattle.state_model.specs.Shown.{shows_field, shows_item, shown_row, shown}
-use Rattle.state_laws.proofs.Passing.{list_any-flat_map}
-use Rattle.state_laws.proofs.Tests.{list_any-made, list_any_filtered}
 
 -- a row with its shown places alone is of the row's kind
 pub shown_kind : (schema : Schema) (M : List Pair) (who : ℕ) (r : Row) → emptied (shown_row schema M who r) ≡ emptied r

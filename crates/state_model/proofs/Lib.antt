@@ -1,11 +1,11 @@
+pub mod CommandRows
 pub mod Declared
 pub mod Examples
-pub mod Rises
-pub mod Zoo
 pub mod PlaceRows
 pub mod ReachedRows
-pub mod SoundRows
-pub mod CommandRows
 pub mod RefusalRows
-pub mod ViewRows
+pub mod Rises
+pub mod SoundRows
 pub mod SpelledRows
+pub mod ViewRows
+pub mod Zoo

@@ -1,11 +1,11 @@
-pub mod Values
-pub mod Rows
-pub mod Places
-pub mod Reached
-pub mod Sound
-pub mod State
 pub mod Commands
 pub mod Members
+pub mod Places
+pub mod Reached
+pub mod Rows
 pub mod Shown
+pub mod Sound
 pub mod Spelled
+pub mod State
+pub mod Values
 pub mod Worded

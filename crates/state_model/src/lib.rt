@@ -11,7 +11,6 @@ pub use command::{Command, TableFault};
 pub use place::{Expected, field_expects, is_filtered, item_expects};
 pub use row::{
     FieldValue, FieldValues, MapItem, MapItems, Row, RowEntry, SetItem, SetItems, Values,
-    copy_field_values, copy_map_items, copy_set_items, copy_values,
 };
 pub use rows::Rows;
 pub use worded::know_texts;

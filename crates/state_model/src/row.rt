@@ -1,6 +1,6 @@
 ghost use Rattle.std.specs.Prelude.{◌≡◌, IfOk};
 
-use lists::{Keyed, Rising, Seq, Text};
+use lists::{Copied, Keyed, Rising, Seq, Text};
 use schema_model::{Home, Memory, RefNum, TypeNum, Value};
 use std::alloc::Global;
 
@@ -11,11 +11,8 @@ pub struct FieldValue {
     pub value: Value,
 }
 
-impl FieldValue {
-    /// A second field with the same value.
-    pub fn copy(&self, alloc: Global) -> Result<FieldValue, Memory>
-        ensures { IfOk result (λ x. x ≡ self.now) }
-    {
+impl Copied for FieldValue {
+    fn copy(&self, alloc: Global) -> Result<FieldValue, Memory> {
         Ok(FieldValue {
             field: self.field,
             value: self.value.copy(alloc)?,
@@ -39,11 +36,8 @@ pub struct MapItem {
     pub value: Value,
 }
 
-impl MapItem {
-    /// A second item with the same key and value.
-    pub fn copy(&self, alloc: Global) -> Result<MapItem, Memory>
-        ensures { IfOk result (λ x. x ≡ self.now) }
-    {
+impl Copied for MapItem {
+    fn copy(&self, alloc: Global) -> Result<MapItem, Memory> {
         Ok(MapItem {
             number: self.number,
             key: self.key.copy(alloc)?,
@@ -67,11 +61,8 @@ pub struct SetItem {
     pub value: Value,
 }
 
-impl SetItem {
-    /// A second item with the same value.
-    pub fn copy(&self, alloc: Global) -> Result<SetItem, Memory>
-        ensures { IfOk result (λ x. x ≡ self.now) }
-    {
+impl Copied for SetItem {
+    fn copy(&self, alloc: Global) -> Result<SetItem, Memory> {
         Ok(SetItem {
             number: self.number,
             value: self.value.copy(alloc)?,
@@ -95,59 +86,6 @@ pub type SetItems = Rising<SetItem>;
 
 pub type Values = Seq<Value>;
 
-/// A second list with the same fields.
-pub fn copy_field_values(alloc: Global, fields: &FieldValues) -> Result<FieldValues, Memory>
-    ensures { IfOk result (λ x. x ≡ fields.now) }
-{
-    let mut out = Rising::new(alloc);
-    if fields.is_empty() {
-        return Ok(out);
-    }
-    for field in fields.as_slice() {
-        out.push(field.copy(alloc)?)?;
-    }
-    Ok(out)
-}
-
-/// A second list with the same items.
-pub fn copy_map_items(alloc: Global, items: &MapItems) -> Result<MapItems, Memory>
-    ensures { IfOk result (λ x. x ≡ items.now) }
-{
-    let mut out = Rising::new(alloc);
-    if items.is_empty() {
-        return Ok(out);
-    }
-    for item in items.as_slice() {
-        out.push(item.copy(alloc)?)?;
-    }
-    Ok(out)
-}
-
-/// A second list with the same items.
-pub fn copy_set_items(alloc: Global, items: &SetItems) -> Result<SetItems, Memory>
-    ensures { IfOk result (λ x. x ≡ items.now) }
-{
-    let mut out = Rising::new(alloc);
-    if items.is_empty() {
-        return Ok(out);
-    }
-    for item in items.as_slice() {
-        out.push(item.copy(alloc)?)?;
-    }
-    Ok(out)
-}
-
-/// A second list with the same values.
-pub fn copy_values(alloc: Global, values: &Values) -> Result<Values, Memory>
-    ensures { IfOk result (λ x. x ≡ values.now) }
-{
-    let mut out = Seq::new(alloc);
-    for value in values.as_slice() {
-        out.push(value.copy(alloc)?)?;
-    }
-    Ok(out)
-}
-
 /// An instance of a class with its present fields, or a collection of a home with its items.
 #[derive(Debug, Drop)]
 pub enum Row {
@@ -163,13 +101,10 @@ impl Row {
         ensures { IfOk result (λ x. x ≡ self.now) }
     {
         match self {
-            Row::Struct(class, fields) => Ok(Row::Struct(
-                *class,
-                copy_field_values(alloc, fields)?,
-            )),
-            Row::Map(home, items) => Ok(Row::Map(*home, copy_map_items(alloc, items)?)),
-            Row::Array(home, values) => Ok(Row::Array(*home, copy_values(alloc, values)?)),
-            Row::Set(home, items) => Ok(Row::Set(*home, copy_set_items(alloc, items)?)),
+            Row::Struct(class, fields) => Ok(Row::Struct(*class, fields.copy(alloc)?)),
+            Row::Map(home, items) => Ok(Row::Map(*home, items.copy(alloc)?)),
+            Row::Array(home, values) => Ok(Row::Array(*home, values.copy(alloc)?)),
+            Row::Set(home, items) => Ok(Row::Set(*home, items.copy(alloc)?)),
         }
     }
 }

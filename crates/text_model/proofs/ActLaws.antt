@@ -2,6 +2,7 @@
 use Rattle.std.proofs.Common.{◌≡◌, ℕ, ◌^◌, Bool, true, false, ◌&&◌, cond, List, [], ◌∷◌, Option, Some, None, refl, sym, ap, ◌∙◌, arith, lt-ltb, ltb-true, leb, le-leb, leb-true, codes, option_map}
 use Rattle.std.specs.Fmt.{decimal}
 use Rattle.std.proofs.lemmas.Bool.{and_parts, and_from}
+use Rattle.lists.proofs.Options.{mapped_some}
 use Rattle.schema_model.specs.declared.place.Home.{Home}
 use Rattle.schema_model.specs.declared.place.Pair.{Pair}
 use Rattle.state_model.specs.declared.command.Command.{Command}
@@ -15,7 +16,7 @@ use Rattle.text_model.specs.Lines.{both, is_word, some_if, three}
 use Rattle.text_model.specs.Marks.{hex_word, is_id, quoted}
 use Rattle.text_model.specs.Outputs.{kind_word}
 use Rattle.text_model.specs.WordForms.{are_bytes, hex_of, id_of, is_text, kind_of, quoted_of, tag_of_word, value_of, value_word}
-use Rattle.text_model.proofs.Choices.{both_is, both_of, chosen_if, mapped_of, three_is, three_of_them}
+use Rattle.text_model.proofs.Choices.{both_is, both_of, chosen_if, three_is, three_of_them}
 use Rattle.text_model.proofs.DecimalLaw.{decimal_read, decimal_read_within, read_decimal, read_decimal_within}
 use Rattle.text_model.proofs.WordLaws.{code_read, hex_read, id_read, kind_read, quoted_read, read_code, read_hex, read_id, read_kind, read_quoted, read_tag, read_value, tag_read, value_read, word_is}
 
@@ -89,7 +90,7 @@ Reads {A} read word fits = (w : List ℕ) (x : A) → read w ≡ Some x → (w �
 module _ {A : Type 0} (lit : List ℕ) (f : A → Act) (ra : List ℕ → Option A) (wa : A → List ℕ) (fa : A → Bool) (reads : Reads ra wa fa) (words : (x : A) → act_words (f x) ≡ lit ∷ wa x ∷ []) (fits : (x : A) → fa x ≡ true → is_act (f x) ≡ true) where
   one_by : (w a : List ℕ) (act : Act) → is_word lit w ≡ true → option_map f (ra a) ≡ Some act → AreWords (w ∷ a ∷ []) act
   one_by w a act word h =
-      let m = mapped_of f (ra a) act h in
+      let m = mapped_some f (ra a) act h in
       let x = reads a m.0 m.1 in
       same_act (w ∷ a ∷ []) act (f m.0) m.2 (record { words = (λ i. word_is lit w word i ∷ x.0 i ∷ []) ∙ sym (words m.0); fits = fits m.0 x.1 })
 
@@ -114,7 +115,7 @@ module _ {A B C : Type 0} (lit : List ℕ) (f : A → B → C → Act) (ra : Lis
       same_act (w ∷ a ∷ b ∷ c ∷ []) act (f m.0 m.1 m.2) m.6 (record { words = (λ i. word_is lit w word i ∷ x.0 i ∷ y.0 i ∷ z.0 i ∷ []) ∙ sym (words m.0 m.1 m.2); fits = fits m.0 m.1 m.2 x.1 y.1 z.1 })
 
 -- one of two tests, or of three
-two_fit : (a b : Bool) → a ≡ true → b ≡ true → (a && b) ≡ true
+pub two_fit : (a b : Bool) → a ≡ true → b ≡ true → (a && b) ≡ true
 two_fit a b p q = and_from a b p q
 
 three_fit : (a b c : Bool) → a ≡ true → b ≡ true → c ≡ true → (a && (b && c)) ≡ true
@@ -130,14 +131,15 @@ one_read w a act h =
 -- a class and a field
 makefor_read : (w a b : List ℕ) (act : Act) → is_word (codes "makefor") w ≡ true → option_map (λ home. State (MakeFor home)) (home_of a b) ≡ Some act → AreWords (w ∷ a ∷ b ∷ []) act
 makefor_read w a b act word h =
-    let m = mapped_of (λ home. State (MakeFor home)) (home_of a b) act h in
+    let m = mapped_some (λ home. State (MakeFor home)) (home_of a b) act h in
     let x = home_read a b m.0 m.1 in
     same_act (w ∷ a ∷ b ∷ []) act (State (MakeFor m.0)) m.2 (record { words = λ i. word_is (codes "makefor") w word i ∷ x.0 i ∷ x.1 i ∷ []; fits = x.2 })
 
 two_read : (w a b : List ℕ) (act : Act) → two_of w a b ≡ Some act → AreWords (w ∷ a ∷ b ∷ []) act
 two_read w a b act h =
     first_or (is_word (codes "makefor") w) _ _ act (makefor_read w a b act)
-    (first_or (is_word (codes "unset") w) _ _ act (two_by (codes "unset") (λ r f. State (Unset r f)) ref_of decimal is_ref ref_read field_of_word decimal is_field_number field_read (λ x y. refl) (λ x y. two_fit (is_ref x) (is_field_number y)) w a b act)
+    (first_or (is_word (codes "unset") w) _ _ act (two_by (codes "unset") (λ r f. State (Unset r f)) ref_of decimal is_ref ref_read field_of_word decimal is_field_number field_read
+    (λ x y. refl) (λ x y. two_fit (is_ref x) (is_field_number y)) w a b act)
     (first_or (is_word (codes "delkey") w) _ _ act (two_by (codes "delkey") (λ r k. State (DelKey r k)) ref_of decimal is_ref ref_read quoted_of quoted is_text quoted_read (λ x y. refl) (λ x y. two_fit (is_ref x) (is_text y)) w a b act)
     (first_or (is_word (codes "push") w) _ _ act (two_by (codes "push") (λ r v. State (Push r v)) ref_of decimal is_ref ref_read value_of value_word is_value value_read (λ x y. refl) (λ x y. two_fit (is_ref x) (is_value y)) w a b act)
     (first_or (is_word (codes "delat") w) _ _ act (two_by (codes "delat") (λ r n. State (DelAt r n)) ref_of decimal is_ref ref_read ref_of decimal is_ref ref_read (λ x y. refl) (λ x y. two_fit (is_ref x) (is_ref y)) w a b act)
@@ -160,13 +162,18 @@ member_read lit f words fits w a b c act word h =
 
 three_read : (w a b c : List ℕ) (act : Act) → three_of w a b c ≡ Some act → AreWords (w ∷ a ∷ b ∷ c ∷ []) act
 three_read w a b c act h =
-    first_or (is_word (codes "put") w) _ _ act (three_by (codes "put") (λ r f v. State (Put r f v)) ref_of decimal is_ref ref_read field_of_word decimal is_field_number field_read value_of value_word is_value value_read (λ x y z. refl) (λ x y z. three_fit (is_ref x) (is_field_number y) (is_value z)) w a b c act)
-    (first_or (is_word (codes "putkey") w) _ _ act (three_by (codes "putkey") (λ r k v. State (PutKey r k v)) ref_of decimal is_ref ref_read quoted_of quoted is_text quoted_read value_of value_word is_value value_read (λ x y z. refl) (λ x y z. three_fit (is_ref x) (is_text y) (is_value z)) w a b c act)
-    (first_or (is_word (codes "setat") w) _ _ act (three_by (codes "setat") (λ r n v. State (SetAt r n v)) ref_of decimal is_ref ref_read ref_of decimal is_ref ref_read value_of value_word is_value value_read (λ x y z. refl) (λ x y z. three_fit (is_ref x) (is_ref y) (is_value z)) w a b c act)
+    first_or (is_word (codes "put") w) _ _ act (three_by (codes "put") (λ r f v. State (Put r f v)) ref_of decimal is_ref ref_read field_of_word decimal is_field_number field_read value_of value_word is_value value_read
+    (λ x y z. refl) (λ x y z. three_fit (is_ref x) (is_field_number y) (is_value z)) w a b c act)
+    (first_or (is_word (codes "putkey") w) _ _ act (three_by (codes "putkey") (λ r k v. State (PutKey r k v)) ref_of decimal is_ref ref_read quoted_of quoted is_text quoted_read value_of value_word is_value value_read
+    (λ x y z. refl) (λ x y z. three_fit (is_ref x) (is_text y) (is_value z)) w a b c act)
+    (first_or (is_word (codes "setat") w) _ _ act (three_by (codes "setat") (λ r n v. State (SetAt r n v)) ref_of decimal is_ref ref_read ref_of decimal is_ref ref_read value_of value_word is_value value_read
+    (λ x y z. refl) (λ x y z. three_fit (is_ref x) (is_ref y) (is_value z)) w a b c act)
     (first_or (is_word (codes "viewadd") w) _ _ act (member_read (codes "viewadd") ViewAdd (λ s p. refl) (λ s p. two_fit (is_id s) (is_pair p)) w a b c act)
     (first_or (is_word (codes "viewdel") w) _ _ act (member_read (codes "viewdel") ViewDel (λ s p. refl) (λ s p. two_fit (is_id s) (is_pair p)) w a b c act)
-    (first_or (is_word (codes "send") w) _ _ act (three_by (codes "send") Send id_of (λ s. s) is_id id_read kind_of kind_word is_kind kind_read hex_of hex_word are_bytes hex_read (λ x y z. refl) (λ x y z. three_fit (is_id x) (is_kind y) (are_bytes z)) w a b c act)
-    (first_or (is_word (codes "raw") w) _ _ act (three_by (codes "raw") Raw id_of (λ s. s) is_id id_read kind_of kind_word is_kind kind_read hex_of hex_word are_bytes hex_read (λ x y z. refl) (λ x y z. three_fit (is_id x) (is_kind y) (are_bytes z)) w a b c act)
+    (first_or (is_word (codes "send") w) _ _ act (three_by (codes "send") Send id_of (λ s. s) is_id id_read kind_of kind_word is_kind kind_read hex_of hex_word are_bytes hex_read
+    (λ x y z. refl) (λ x y z. three_fit (is_id x) (is_kind y) (are_bytes z)) w a b c act)
+    (first_or (is_word (codes "raw") w) _ _ act (three_by (codes "raw") Raw id_of (λ s. s) is_id id_read kind_of kind_word is_kind kind_read hex_of hex_word are_bytes hex_read
+    (λ x y z. refl) (λ x y z. three_fit (is_id x) (is_kind y) (are_bytes z)) w a b c act)
     (none_taken act)))))))
     h
 

@@ -1,5 +1,5 @@
 -- What is made of values that may be missing: what it was made of.
-use Rattle.std.proofs.Common.{◌≡◌, Bool, true, false, cond, Option, Some, None, refl, sym, ap, ◌∙◌, option_map}
+use Rattle.std.proofs.Common.{◌≡◌, Bool, true, false, Option, Some, None, refl, sym, ap, ◌∙◌}
 use Rattle.text_model.specs.Lines.{both, passing, some_if, three}
 
 pub chosen_if : {A : Type 0} (test : Bool) (x y : A) → some_if test x ≡ Some y → (test ≡ true) × (x ≡ y)
@@ -9,11 +9,6 @@ chosen_if false x y h = absurd (cc)
 pub choose_if : {A : Type 0} (test : Bool) (x : A) → test ≡ true → some_if test x ≡ Some x
 choose_if test x h = ap (λ b. some_if b x) h
 
--- one that is taken where a test holds, and nothing else
-pub taken_if : {A : Type 0} (test : Bool) (o : Option A) (y : A) → cond test o None ≡ Some y → (test ≡ true) × (o ≡ Some y)
-taken_if true o y h = (refl, h)
-taken_if false o y h = absurd (cc)
-
 pub passed : {A : Type 0} (test : A → Bool) (o : Option A) (x : A) → passing test o ≡ Some x → (o ≡ Some x) × (test x ≡ true)
 passed test None x h = absurd (cc)
 passed test (Some y) x h =
@@ -22,10 +17,6 @@ passed test (Some y) x h =
 
 pub pass : {A : Type 0} (test : A → Bool) (o : Option A) (x : A) → o ≡ Some x → test x ≡ true → passing test o ≡ Some x
 pass test o x is h = ap (passing test) is ∙ choose_if (test x) x h
-
-pub mapped_of : {A B : Type 0} (f : A → B) (o : Option A) (y : B) → option_map f o ≡ Some y → (x : A) × (o ≡ Some x) × (f x ≡ y)
-mapped_of f (Some x) y h = (x, refl, (cc))
-mapped_of f None y h = absurd (cc)
 
 pub both_of : {A B C : Type 0} (f : A → B → C) (a : Option A) (b : Option B) (y : C) → both f a b ≡ Some y → (x : A) × (z : B) × (a ≡ Some x) × (b ≡ Some z) × (f x z ≡ y)
 both_of f (Some x) (Some z) y h = (x, z, refl, refl, (cc))

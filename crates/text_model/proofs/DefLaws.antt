@@ -4,6 +4,8 @@ use Rattle.std.specs.List.{list_all}
 use Rattle.std.specs.Fmt.{decimal}
 use Rattle.std.proofs.lemmas.Bool.{and_parts, and_from}
 use Rattle.std.proofs.lemmas.List.Splits.{join_with_byte-slice_split, length-slice_split}
+use Rattle.lists.proofs.Options.{taken_if}
+use Rattle.lists.proofs.Passing.{all_append}
 use Rattle.state_model.specs.Sound.{keys_differ}
 use Rattle.room_model.specs.declared.definition.RoomDef.{RoomDef}
 use Rattle.room_model.specs.Definitions.{is_room_def, is_within}
@@ -12,10 +14,10 @@ use Rattle.text_model.specs.Decimals.{decimal_within}
 use Rattle.text_model.specs.DefLines.{DefNumbers, are_def_words, are_keys, comma_joined, comma_split, def_of, def_with, def_words, filter_of, filter_words, is_named_def, numbers_of}
 use Rattle.text_model.specs.Lines.{both, is_word, some_if}
 use Rattle.text_model.specs.Marks.{has_name_length, is_id_byte, is_room_name}
-use Rattle.text_model.proofs.Choices.{both_is, both_of, choose_if, chosen_if, taken_if}
+use Rattle.text_model.proofs.Choices.{both_is, both_of, choose_if, chosen_if}
 use Rattle.text_model.proofs.DecimalLaw.{decimal_plain, decimal_read_within, read_decimal_within}
 use Rattle.text_model.proofs.NamesPlain.{room_name_plain}
-use Rattle.text_model.proofs.Spaced.{all_append, cut_first, cut_last, is_line, is_plain, lacks, lacks_from}
+use Rattle.text_model.proofs.Spaced.{cut_first, cut_last, is_line, is_plain, lacks, lacks_from}
 use Rattle.text_model.proofs.WordLaws.{word_is}
 
 -- ---- keys

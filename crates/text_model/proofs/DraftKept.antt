@@ -1,8 +1,8 @@
 -- What each class of a draft keeps to, behind the earlier ones.
 use Rattle.std.proofs.Common.{◌≡◌, ℕ, zero, suc, ◌<◌, Bool, true, not, ◌&&◌, List, [], ◌∷◌, ◌++◌, length, Option, Some, None, refl, sym, ap, ◌∙◌, subst, append_assoc, append-nil, bytes_eq, leb, slice_get, unwrap_or}
 use Rattle.std.proofs.lemmas.Bool.{and_parts, and_from}
-use Rattle.text_model.proofs.Spaced.{all_append}
 use Rattle.std.specs.List.{list_any, list_all}
+use Rattle.lists.proofs.Passing.{all_append}
 use Rattle.schema_model.specs.Classes.{is_earlier}
 use Rattle.state_model.specs.Sound.{keys_differ}
 use Rattle.text_model.specs.Marks.{is_class_name, is_field_name, is_one_of}

@@ -31,7 +31,7 @@ pub record AreWhole (cs : List DraftClass) : Type 0 where
 
 -- ---- from each class behind the earlier ones
 
-behind_count : (earlier cs : List DraftClass) → length earlier ≤ 256 → AreClassesBehind earlier cs → length earlier + length cs ≤ 256
+pub behind_count : (earlier cs : List DraftClass) → length earlier ≤ 256 → AreClassesBehind earlier cs → length earlier + length cs ≤ 256
 behind_count earlier [] h k = omega arith
 behind_count earlier (c ∷ cs) h k =
     let few = k.0.few in

@@ -2,6 +2,7 @@
 use Rattle.std.proofs.Common.{◌≡◌, ℕ, ◌^◌, Bool, true, false, ◌&&◌, cond, List, [], ◌∷◌, Option, Some, None, refl, sym, ap, ◌∙◌, arith, lt-ltb, ltb-true, codes, option_map}
 use Rattle.std.specs.Fmt.{decimal}
 use Rattle.std.proofs.lemmas.Bool.{and_parts, and_from}
+use Rattle.lists.proofs.Options.{taken_if, mapped_some}
 use Rattle.hub_model.specs.declared.event.HubEvent.{HubEvent}
 use Rattle.hub_model.specs.declared.event.HubEvent.TheVariants.{At, Ask, Bad, Opening, Frame, Lost, Act, Tick}
 use Rattle.text_model.specs.Acts.{act_of, is_act}
@@ -10,7 +11,7 @@ use Rattle.text_model.specs.Lines.{is_word}
 use Rattle.text_model.specs.Marks.{is_id}
 use Rattle.text_model.specs.WordForms.{are_bytes, hex_of, id_of, is_text, plain_of, plain_text_of}
 use Rattle.text_model.proofs.ActLaws.{act_is, act_read}
-use Rattle.text_model.proofs.Choices.{both_is, both_of, mapped_of, taken_if, three_is, three_of_them}
+use Rattle.text_model.proofs.Choices.{both_is, both_of, three_is, three_of_them}
 use Rattle.text_model.proofs.DecimalLaw.{decimal_read, read_decimal}
 use Rattle.text_model.proofs.WordLaws.{hex_read, id_read, plain_read, plain_text_read, read_hex, read_id, read_plain, read_plain_text, word_is}
 
@@ -46,7 +47,7 @@ module _ {A : Type 0} (lit : List ℕ) (f : A → HubEvent) (ra : List ℕ → O
     (fits : (x : A) → fa x ≡ true → is_event (f x) ≡ true) where
   one_by : (w a : List ℕ) (e : HubEvent) → is_word lit w ≡ true → option_map f (ra a) ≡ Some e → AreEvent (w ∷ a ∷ []) e
   one_by w a e word h =
-      let m = mapped_of f (ra a) e h in
+      let m = mapped_some f (ra a) e h in
       let x = reads a m.0 m.1 in
       same_event (w ∷ a ∷ []) e (f m.0) m.2 (record { words = (λ i. word_is lit w word i ∷ x.0 i ∷ []) ∙ sym (words m.0); fits = fits m.0 x.1 })
 

@@ -1,8 +1,8 @@
 -- The words of items: those of kinds, and the names of classes.
-use Rattle.std.proofs.Common.{◌≡◌, ℕ, Bool, true, false, ◌||◌, cond, List, [], ◌∷◌, Option, Some, None, is_some, refl, sym, ap, ◌∙◌, bytes_eq}
-use Rattle.std.specs.List.{find}
+use Rattle.std.proofs.Common.{◌≡◌, ℕ, Bool, true, false, ◌||◌, List, [], ◌∷◌, Option, Some, None, is_some, refl, sym, ap, ◌∙◌, bytes_eq}
 use Rattle.std.proofs.lemmas.Bool.{and_parts, not-true}
 use Rattle.lists.proofs.SameBytes.{same_bytes}
+use Rattle.lists.proofs.Passing.{found_passes}
 use Rattle.schema_model.specs.declared.scalar.ScalarKind.{ScalarKind}
 use Rattle.schema_model.specs.declared.scalar.ScalarKind.TheVariants as kind
 use Rattle.text_model.specs.Marks.{all_kinds, scalar_word, is_class_name, is_field_name, is_one_of, shape_words}
@@ -12,20 +12,9 @@ use Rattle.text_model.specs.SchemaLines.{kind_of_word, is_item_word}
 
 -- ---- the words of kinds
 
--- what is found passes the test
-find_passes : {A : Type 0} (p : A → Bool) (xs : List A) (x : A) → find p xs ≡ Some x → p x ≡ true
-find_passes p [] x h = absurd (cc)
-find_passes p (y ∷ ys) x h = from (p y) refl (find_passes p ys x) h
-  where
-    from : (b : Bool) → p y ≡ b → (find p ys ≡ Some x → p x ≡ true) → cond b (Some y) (find p ys) ≡ Some x → p x ≡ true
-    from true e rest k =
-        let same : y ≡ x = cc in
-        ap p (sym same) ∙ e
-    from false e rest k = rest k
-
 -- only a kind's word stands for it
 pub kind_named : (w : List ℕ) (k : ScalarKind) → kind_of_word w ≡ Some k → w ≡ scalar_word k
-kind_named w k h = sym (same_bytes (scalar_word k) w (find_passes (λ k. bytes_eq (scalar_word k) w) all_kinds k h))
+kind_named w k h = sym (same_bytes (scalar_word k) w (found_passes (λ k. bytes_eq (scalar_word k) w) all_kinds k h))
 
 pub kind_known : (k : ScalarKind) → kind_of_word (scalar_word k) ≡ Some k
 kind_known kind.Number = refl

@@ -1,8 +1,9 @@
 -- A line has a form exactly where its words are those of a line that is well formed.
-use Rattle.std.proofs.Common.{◌≡◌, ℕ, Bool, true, false, ◌&&◌, cond, List, [], ◌∷◌, Option, Some, None, refl, sym, ap, ◌∙◌, bytes_eq, codes}
+use Rattle.std.proofs.Common.{◌≡◌, ℕ, Bool, true, false, ◌&&◌, cond, List, [], ◌∷◌, Some, None, refl, sym, ap, ◌∙◌, bytes_eq, codes}
 use Rattle.std.specs.Option.{option_map}
 use Rattle.std.proofs.lemmas.Bool.{and_parts, and_from, or_parts, cond-true, cond-false}
 use Rattle.lists.proofs.SameBytes.{same_bytes}
+use Rattle.lists.proofs.Options.{taken_if, mapped_some}
 use Rattle.text_model.specs.Marks.{is_class_name, is_field_name}
 use Rattle.text_model.specs.Lines.{is_word}
 use Rattle.text_model.proofs.DecimalLaw.{chosen}
@@ -25,15 +26,6 @@ is_line_form (FieldLine name grouping w tagging) = is_field_name name && is_item
 is_line_form (RootLine name) = is_class_name name
 
 -- ---- the form of words is a line with these words
-
--- a choice that gives something is made where its test holds, and gives the same
-chosen_from : {A : Type 0} (b : Bool) (o : Option A) (y : A) → cond b o None ≡ Some y → (b ≡ true) × (o ≡ Some y)
-chosen_from true o y h = (refl, h)
-chosen_from false o y h = absurd (cc)
-
-mapped_from : {A B : Type 0} (g : A → B) (o : Option A) (y : B) → option_map g o ≡ Some y → (x : A) × (o ≡ Some x) × (g x ≡ y)
-mapped_from g None y h = absurd (cc)
-mapped_from g (Some x) y h = (x, refl, (cc))
 
 -- words are those of a line, and the line is well formed
 pub record IsFormed (ws : List (List ℕ)) (f : SchemaLine) : Type 0 where
@@ -80,8 +72,8 @@ item_formed : (name : List ℕ) (g : Grouping) (ws : List (List ℕ)) (f : Schem
     → IsFormed (codes "field" ∷ name ∷ grouped g ws) f
 item_formed name g [] f n h = absurd (cc)
 item_formed name g (w ∷ ws) f n h =
-    let c = chosen_from (is_item_word w) (option_map (FieldLine name g w) (tagging_form ws)) f h in
-    let m = mapped_from (FieldLine name g w) (tagging_form ws) f c.1 in
+    let c = taken_if (is_item_word w) (option_map (FieldLine name g w) (tagging_form ws)) f h in
+    let m = mapped_some (FieldLine name g w) (tagging_form ws) f c.1 in
     let t = tagging_formed ws m.0 m.1 in
     record {
       words = ap (λ l. codes "field" ∷ name ∷ grouped g (w ∷ l)) t.0 ∙ ap line_words m.2;
@@ -107,7 +99,7 @@ shape_formed name (w ∷ ws) f n h = from (is_word (codes "map") w) (is_word (co
 field_formed : (ws : List (List ℕ)) (f : SchemaLine) → field_form ws ≡ Some f → IsFormed (codes "field" ∷ ws) f
 field_formed [] f h = absurd (cc)
 field_formed (name ∷ ws) f h =
-    let c = chosen_from (is_field_name name) (shape_form name ws) f h in
+    let c = taken_if (is_field_name name) (shape_form name ws) f h in
     shape_formed name ws f c.0 c.1
 
 -- the form of a line's words has these words

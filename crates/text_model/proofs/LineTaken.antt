@@ -4,12 +4,12 @@ use Rattle.std.specs.List.{list_any}
 use Rattle.std.specs.Option.{option_map}
 use Rattle.std.proofs.lemmas.Bool.{and_parts, and_from, or_parts, true≢false}
 use Rattle.std.proofs.lemmas.List.{map-append, length_push}
+use Rattle.lists.proofs.Passing.{all_append}
 use Rattle.schema_model.specs.Classes.{is_earlier}
 use Rattle.schema_model.specs.Reading.{◌>>=◌}
 use Rattle.state_model.specs.Sound.{keys_differ}
 use Rattle.text_model.specs.Decimals.{decimal_below}
 use Rattle.text_model.specs.Marks.{is_class_name, is_field_name, is_one_of}
-use Rattle.text_model.proofs.Spaced.{all_append}
 use Rattle.text_model.proofs.DecimalLaw.{decimal_read}
 use Rattle.text_model.proofs.Keys.{keys_push}
 use Rattle.text_model.specs.declared.fault.SchemaFault.{SchemaFault}

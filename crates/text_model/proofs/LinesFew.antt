@@ -1,7 +1,7 @@
 -- Lines that were all taken are few.
 use Rattle.std.proofs.Common.{◌≡◌, ℕ, suc, ◌+◌, ◌*◌, ◌≤◌, List, [], ◌∷◌, ◌++◌, length, Option, Some, None, Result, Ok, sym, ap, ◌∙◌, refl, arith, leb, leb-true}
 use Rattle.std.proofs.lemmas.Bool.{and_parts}
-use Rattle.std.proofs.lemmas.List.{length_push, length-append, length-map}
+use Rattle.std.proofs.lemmas.List.{length-append, length-map}
 use Rattle.schema_model.specs.Reading.{◌>>=◌}
 use Rattle.state_model.specs.Sound.{keys_differ}
 use Rattle.text_model.specs.declared.fault.SchemaFault.{SchemaFault}
@@ -13,6 +13,7 @@ use Rattle.text_model.proofs.DraftTable.{names_next, field_names}
 use Rattle.text_model.proofs.DraftKept.{IsClassBehind, AreClassesBehind}
 use Rattle.text_model.proofs.DraftLines.{draft_field_line, draft_class_lines, lines_behind, root_lines}
 use Rattle.text_model.proofs.LineTaken.{bound_from, read_lines}
+use Rattle.text_model.proofs.DraftWhole.{behind_count}
 
 -- a line more
 pub lines_taken-push : (n : ℕ) (d : Draft) (ls : List (List (List ℕ))) (ws : List (List ℕ)) (e f : Draft) → lines_taken n d ls ≡ Ok e
@@ -46,11 +47,6 @@ lines_short earlier (c ∷ cs) k =
       lines_short (earlier ++ c ∷ []) cs k.1,
     )
 
-classes_few : (earlier cs : List DraftClass) → length earlier ≤ 256 → AreClassesBehind earlier cs → length earlier + length cs ≤ 256
-classes_few earlier [] h k = omega arith
-classes_few earlier (c ∷ cs) h k =
-    omega (arith, length_push earlier c, k.0.few, classes_few (earlier ++ c ∷ []) cs (omega (arith, length_push earlier c, k.0.few)) k.1)
-
 root_short : (o : Option DraftRoot) → length (root_lines o) ≤ 1
 root_short None = omega arith
 root_short (Some r) = omega arith
@@ -66,6 +62,6 @@ lines_few ls d h =
       ap length r.lines,
       length-append (lines_behind [] d.classes) (root_lines d.root),
       lines_short [] d.classes r.kept,
-      classes_few [] d.classes (omega arith) r.kept,
+      behind_count [] d.classes (omega arith) r.kept,
       root_short d.root,
     )

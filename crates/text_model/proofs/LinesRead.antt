@@ -6,6 +6,7 @@ use Rattle.std.specs.Fmt.{decimal}
 use Rattle.std.proofs.lemmas.Bool.{and_parts, and_from, or_from, not-true, true≢false, cond-false, lt-leb}
 use Rattle.std.proofs.lemmas.List.{map-append, length_push, length-append}
 use Rattle.std.proofs.lemmas.List.Folds.{list_all-append}
+use Rattle.lists.proofs.Passing.{all_append}
 use Rattle.schema_model.specs.Classes.{is_earlier}
 use Rattle.schema_model.specs.Reading.{◌>>=◌}
 use Rattle.schema_model.specs.declared.class.Class.{Class}
@@ -13,7 +14,7 @@ use Rattle.schema_model.specs.declared.class.FieldDecl.{FieldDecl}
 use Rattle.state_model.specs.Sound.{keys_differ}
 use Rattle.text_model.specs.Decimals.{is_decimal, digits_number}
 use Rattle.text_model.specs.Marks.{is_class_name, is_field_name, is_one_of}
-use Rattle.text_model.proofs.Spaced.{all_pass, all_append}
+use Rattle.text_model.proofs.Spaced.{all_pass}
 use Rattle.text_model.proofs.DecimalLaw.{read_decimal, chosen}
 use Rattle.text_model.proofs.Keys.{keys_apart}
 use Rattle.text_model.specs.declared.fault.SchemaFault.TheVariants.{UnknownWord, TwiceClass, ParentLater, TooManyClasses, FractionalKind, BadTag, TwiceField, TooManyFields}

@@ -4,6 +4,8 @@ use Rattle.std.specs.List.{find}
 use Rattle.std.specs.Fmt.{decimal}
 use Rattle.std.proofs.lemmas.Bool.{and_parts, and_from, true≢false}
 use Rattle.std.proofs.lemmas.List.Splits.{length-slice_split}
+use Rattle.lists.proofs.Passing.{all_append}
+use Rattle.lists.proofs.Options.{mapped_some}
 use Rattle.state_model.specs.declared.command.TableFault.TheVariants as fault
 use Rattle.frame_model.specs.declared.frame.MsgKind.{MsgKind}
 use Rattle.room_model.specs.declared.refusal.Refusal.{Refusal}
@@ -18,12 +20,12 @@ use Rattle.text_model.specs.Marks.{hex_word, is_id, is_room_name, spaced}
 use Rattle.text_model.specs.Outputs.{kind_word, out_words, refusal_word}
 use Rattle.text_model.specs.OutLines.{is_one_line, is_out, is_told, long_out, middle_out, of_who, out_of, plain_out, refusal_of, refusals, reply_of, short_out, who_of}
 use Rattle.text_model.specs.WordForms.{are_bytes, hex_of, id_of, is_text, kind_of}
-use Rattle.text_model.proofs.ActLaws.{read_ref, ref_read}
-use Rattle.text_model.proofs.Choices.{both_is, both_of, choose_if, chosen_if, mapped_of, three_is, three_of_them}
+use Rattle.text_model.proofs.ActLaws.{read_ref, ref_read, two_fit}
+use Rattle.text_model.proofs.Choices.{both_is, both_of, choose_if, chosen_if, three_is, three_of_them}
 use Rattle.text_model.proofs.DecimalLaw.{decimal_plain, decimal_read, read_decimal}
 use Rattle.text_model.proofs.EventLaws.{number_read, read_number}
 use Rattle.text_model.proofs.NamesPlain.{id_plain, room_name_plain}
-use Rattle.text_model.proofs.Spaced.{all_append, cut_first, is_line, is_plain, lacks, lacks_from, lacks_line, spaced-words_of, words_of_line}
+use Rattle.text_model.proofs.Spaced.{cut_first, is_line, is_plain, lacks, lacks_from, lacks_line, spaced-words_of, words_of_line}
 use Rattle.text_model.proofs.WordLaws.{hex_read, id_read, kind_read, read_hex, read_id, read_kind, word_is}
 use Rattle.text_model.proofs.WordsPlain.{hex_plain, long_plain, message_plain, ref_plain}
 
@@ -63,11 +65,12 @@ module _ {A : Type 0} (lit : List ℕ) (f : A → HubOut) (ra : List ℕ → Opt
     (fits : (x : A) → fa x ≡ true → is_out (f x) ≡ true) where
   one_by : (w a : List ℕ) (o : HubOut) → is_word lit w ≡ true → option_map f (ra a) ≡ Some o → AreOut (w ∷ a ∷ []) o
   one_by w a o word h =
-      let m = mapped_of f (ra a) o h in
+      let m = mapped_some f (ra a) o h in
       let x = reads a m.0 m.1 in
       same_out (w ∷ a ∷ []) o (f m.0) m.2 (record { text = (λ i. spaced (word_is lit w word i ∷ x.0 i ∷ [])) ∙ ap spaced (sym (words m.0)); fits = fits m.0 x.1 })
 
-module _ {A B : Type 0} (lit : List ℕ) (f : A → B → HubOut) (ra : List ℕ → Option A) (wa : A → List ℕ) (fa : A → Bool) (reads_a : (w : List ℕ) (x : A) → ra w ≡ Some x → (w ≡ wa x) × (fa x ≡ true)) (rb : List ℕ → Option B) (wb : B → List ℕ) (fb : B → Bool)
+module _ {A B : Type 0} (lit : List ℕ) (f : A → B → HubOut) (ra : List ℕ → Option A) (wa : A → List ℕ) (fa : A → Bool) (reads_a : (w : List ℕ) (x : A) → ra w ≡ Some x → (w ≡ wa x) × (fa x ≡ true))
+    (rb : List ℕ → Option B) (wb : B → List ℕ) (fb : B → Bool)
     (reads_b : (w : List ℕ) (x : B) → rb w ≡ Some x → (w ≡ wb x) × (fb x ≡ true)) (words : (x : A) (y : B) → out_words (f x y) ≡ lit ∷ wa x ∷ wb y ∷ []) (fits : (x : A) (y : B) → fa x ≡ true → fb y ≡ true → is_out (f x y) ≡ true) where
   two_by : (w a b : List ℕ) (o : HubOut) → is_word lit w ≡ true → both f (ra a) (rb b) ≡ Some o → AreOut (w ∷ a ∷ b ∷ []) o
   two_by w a b o word h =
@@ -77,16 +80,14 @@ module _ {A B : Type 0} (lit : List ℕ) (f : A → B → HubOut) (ra : List ℕ
       same_out (w ∷ a ∷ b ∷ []) o (f m.0 m.1) m.4 (record { text = (λ i. spaced (word_is lit w word i ∷ x.0 i ∷ y.0 i ∷ [])) ∙ ap spaced (sym (words m.0 m.1)); fits = fits m.0 m.1 x.1 y.1 })
 
 -- a room and a session
-who_read : (lit : List ℕ) (f : List ℕ → List ℕ → HubOut) → ((r s : List ℕ) → out_words (f r s) ≡ lit ∷ r ∷ s ∷ []) → ((r s : List ℕ) → is_id r ≡ true → is_id s ≡ true → is_out (f r s) ≡ true) → (w a b : List ℕ) (o : HubOut) → is_word lit w ≡ true → of_who f a b ≡ Some o → AreOut (w ∷ a ∷ b ∷ []) o
+who_read : (lit : List ℕ) (f : List ℕ → List ℕ → HubOut) → ((r s : List ℕ) → out_words (f r s) ≡ lit ∷ r ∷ s ∷ []) → ((r s : List ℕ) → is_id r ≡ true → is_id s ≡ true → is_out (f r s) ≡ true)
+    → (w a b : List ℕ) (o : HubOut) → is_word lit w ≡ true → of_who f a b ≡ Some o → AreOut (w ∷ a ∷ b ∷ []) o
 who_read lit f words fits w a b o word h =
-    let m = mapped_of (λ (w : List ℕ × List ℕ). f w.0 w.1) (who_of a b) o h in
+    let m = mapped_some (λ (w : List ℕ × List ℕ). f w.0 w.1) (who_of a b) o h in
     let p = both_of (λ r s. (r, s)) (id_of a) (id_of b) m.0 m.1 in
     let x = id_read a p.0 p.2 in
     let y = id_read b p.1 p.3 in
     same_out (w ∷ a ∷ b ∷ []) o (f p.0 p.1) (ap (λ (w : List ℕ × List ℕ). f w.0 w.1) p.4 ∙ m.2) (record { text = (λ i. spaced (word_is lit w word i ∷ x.0 i ∷ y.0 i ∷ [])) ∙ ap spaced (sym (words p.0 p.1)); fits = fits p.0 p.1 x.1 y.1 })
-
-two_fit : (a b : Bool) → a ≡ true → b ≡ true → (a && b) ≡ true
-two_fit a b p q = and_from a b p q
 
 code_read : (w : List ℕ) (n : ℕ) → decimal_below 65536 w ≡ Some n → (w ≡ decimal n) × (ltb n 65536 ≡ true)
 code_read w n h =
@@ -224,7 +225,8 @@ told_plain (refusal.Table fault.NumbersSpent) = refl
 told_plain (refusal.Table fault.Present) = refl
 told_plain (refusal.Table fault.Memory) = refl
 
-message_is : (f : List ℕ → List ℕ → MsgKind → List ℕ → HubOut) (r s : List ℕ) (k : MsgKind) (p : List ℕ) → ((is_id r && is_id s) && (is_kind k && are_bytes p)) ≡ true → three (λ (who : List ℕ × List ℕ). f who.0 who.1) (who_of r s) (kind_of (kind_word k)) (hex_of (hex_word p)) ≡ Some (f r s k p)
+message_is : (f : List ℕ → List ℕ → MsgKind → List ℕ → HubOut) (r s : List ℕ) (k : MsgKind) (p : List ℕ) → ((is_id r && is_id s) && (is_kind k && are_bytes p)) ≡ true
+    → three (λ (who : List ℕ × List ℕ). f who.0 who.1) (who_of r s) (kind_of (kind_word k)) (hex_of (hex_word p)) ≡ Some (f r s k p)
 message_is f r s k p h =
     let a = and_parts (is_id r && is_id s) (is_kind k && are_bytes p) h in
     let b = and_parts (is_id r) (is_id s) a.0 in
@@ -264,17 +266,20 @@ out_is (Send conn bytes) h =
 out_is (Close conn code) h =
     let p = and_parts (is_number conn) (ltb code 65536) h in
     let low = ltb-true code 65536 p.1 in
-    of_words (out_words (Close conn code)) (Close conn code) (and_from _ _ (long_plain conn p.0) (and_from _ _ (decimal_plain code (omega (arith, low))) refl)) (both_is Close _ _ conn code (read_number conn p.0) (read_decimal 65536 code (omega arith) low))
+    of_words (out_words (Close conn code)) (Close conn code) (and_from _ _ (long_plain conn p.0) (and_from _ _ (decimal_plain code (omega (arith, low))) refl))
+    (both_is Close _ _ conn code (read_number conn p.0) (read_decimal 65536 code (omega arith) low))
 out_is (Reply conn json) h = (let p = and_parts (is_number conn) (is_one_line json) h in reply_is conn json p.0 p.1)
 out_is (Created room name) h =
     let p = and_parts (is_id room) (is_room_name name) h in
     of_words (out_words (Created room name)) (Created room name) (and_from _ _ (id_plain room p.0) (and_from _ _ (room_name_plain name p.1) refl)) (both_is Created _ _ room name (read_id room p.0) (choose_if (is_room_name name) name p.1))
 out_is (Joined room session) h = (let p = and_parts (is_id room) (is_id session) h in of_words (out_words (Joined room session)) (Joined room session) (who_line (codes "joined") room session refl p.0 p.1) (who_is Joined room session p.0 p.1))
-out_is (Returned room session) h = (let p = and_parts (is_id room) (is_id session) h in of_words (out_words (Returned room session)) (Returned room session) (who_line (codes "returned") room session refl p.0 p.1) (who_is Returned room session p.0 p.1))
+out_is (Returned room session) h = (let p = and_parts (is_id room) (is_id session) h in
+    of_words (out_words (Returned room session)) (Returned room session) (who_line (codes "returned") room session refl p.0 p.1) (who_is Returned room session p.0 p.1))
 out_is (Dropped room session) h = (let p = and_parts (is_id room) (is_id session) h in of_words (out_words (Dropped room session)) (Dropped room session) (who_line (codes "dropped") room session refl p.0 p.1) (who_is Dropped room session p.0 p.1))
 out_is (Left room session) h = (let p = and_parts (is_id room) (is_id session) h in of_words (out_words (Left room session)) (Left room session) (who_line (codes "left") room session refl p.0 p.1) (who_is Left room session p.0 p.1))
 out_is (Message room session k payload) h = of_words (out_words (Message room session k payload)) (Message room session k payload) (message_line (codes "message") room session k payload refl h) (message_is Message room session k payload h)
-out_is (RawMessage room session k payload) h = of_words (out_words (RawMessage room session k payload)) (RawMessage room session k payload) (message_line (codes "rawmessage") room session k payload refl h) (message_is RawMessage room session k payload h)
+out_is (RawMessage room session k payload) h = of_words (out_words (RawMessage room session k payload)) (RawMessage room session k payload) (message_line (codes "rawmessage") room session k payload refl h)
+    (message_is RawMessage room session k payload h)
 out_is (Disposed room) h = of_words (out_words (Disposed room)) (Disposed room) (and_from _ _ (id_plain room h) refl) (ap (option_map Disposed) (read_id room h))
 out_is (Made room n) h =
     let p = and_parts (is_id room) (is_ref n) h in
@@ -291,7 +296,8 @@ json_lacks conn json h k =
 pub line_lacks : (o : HubOut) → is_out o ≡ true → lacks 10 (spaced (out_words o)) ≡ true
 line_lacks (Reply conn json) h = (let p = and_parts (is_number conn) (is_one_line json) h in json_lacks conn json p.0 p.1)
 line_lacks (Send conn bytes) h = (let p = and_parts (is_number conn) (are_bytes bytes) h in lacks_line (out_words (Send conn bytes)) (and_from _ _ (long_plain conn p.0) (and_from _ _ (hex_plain bytes p.1) refl)))
-line_lacks (Close conn code) h = (let p = and_parts (is_number conn) (ltb code 65536) h in lacks_line (out_words (Close conn code)) (and_from _ _ (long_plain conn p.0) (and_from _ _ (decimal_plain code (omega (arith, ltb-true code 65536 p.1))) refl)))
+line_lacks (Close conn code) h = (let p = and_parts (is_number conn) (ltb code 65536) h in
+    lacks_line (out_words (Close conn code)) (and_from _ _ (long_plain conn p.0) (and_from _ _ (decimal_plain code (omega (arith, ltb-true code 65536 p.1))) refl)))
 line_lacks (Created room name) h = (let p = and_parts (is_id room) (is_room_name name) h in lacks_line (out_words (Created room name)) (and_from _ _ (id_plain room p.0) (and_from _ _ (room_name_plain name p.1) refl)))
 line_lacks (Joined room session) h = (let p = and_parts (is_id room) (is_id session) h in lacks_line (out_words (Joined room session)) (who_line (codes "joined") room session refl p.0 p.1))
 line_lacks (Returned room session) h = (let p = and_parts (is_id room) (is_id session) h in lacks_line (out_words (Returned room session)) (who_line (codes "returned") room session refl p.0 p.1))

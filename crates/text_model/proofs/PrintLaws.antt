@@ -1,10 +1,12 @@
 -- A text is read as what a replay prints exactly where it is the one text of that.
-use Rattle.std.proofs.Common.{◌≡◌, ℕ, suc, ◌==◌, Bool, true, false, ◌&&◌, cond, List, [], ◌∷◌, ◌++◌, length, map, Option, Some, None, Result, Ok, Err, refl, sym, ap, ◌∙◌, eqb-true, eq-eqb, codes}
+use Rattle.std.proofs.Common.{◌≡◌, ℕ, suc, ◌==◌, Bool, true, false, ◌&&◌, cond, List, [], ◌∷◌, ◌++◌, length, map, Option, Some, None, Result, Ok, Err, refl, sym, ap, ◌∙◌, eqb-true, codes}
 use Rattle.std.specs.List.{list_all, list_any}
 use Rattle.std.specs.Option.{option_map_or}
 use Rattle.std.proofs.lemmas.Bool.{and_parts, and_from, false_from_ne_true}
 use Rattle.std.proofs.lemmas.Grind.{flat_map-append}
 use Rattle.std.proofs.lemmas.List.{length-map, map-append}
+use Rattle.lists.proofs.Numbers.{same_number}
+use Rattle.lists.proofs.Passing.{all_append}
 use Rattle.schema_model.specs.Classes.{Schema}
 use Rattle.schema_model.specs.Reading.{◌>>=◌}
 use Rattle.hub_model.specs.declared.event.HubOut.{HubOut}
@@ -20,7 +22,7 @@ use Rattle.text_model.proofs.LineTaken.{bound_from}
 use Rattle.text_model.proofs.OutLaws.{line_lacks, out_is, out_read}
 use Rattle.text_model.proofs.SchemaLaw.{lines_are_schema, schema_lines_plain}
 use Rattle.text_model.proofs.ScheduleLaws.{behind_of, end_of, joined_again, schema_parted, schema_read, texts_of}
-use Rattle.text_model.proofs.Spaced.{all_append, prefix_of, prefix_of_push, lacks, last_of, last_of_push, pieces_of_texts, spaced-words_of, text_of_lines, texts_from_lines}
+use Rattle.text_model.proofs.Spaced.{prefix_of, prefix_of_push, lacks, last_of, last_of_push, pieces_of_texts, spaced-words_of, text_of_lines, texts_from_lines}
 use Rattle.text_model.proofs.WordLaws.{word_is}
 
 -- ---- outputs
@@ -37,14 +39,12 @@ record OutsRead (n : ℕ) (ls : List (List ℕ)) (rest : List ℕ) (os : List (�
   numbered : are_numbered n os ≡ true
   fits : are_outs os ≡ true
 
-same_number : (n : ℕ) → (n == n) ≡ true
-same_number n = eq-eqb n n refl
-
 outs_read : (n : ℕ) (ls : List (List ℕ)) (rest : List ℕ) (os : List (ℕ × HubOut)) → outs_from n ls rest ≡ Ok os → OutsRead n ls rest os
 outs_read n [] rest os h = absurd (cc)
 outs_read n (l ∷ ls) rest os h = by_end (is_word (codes "end") l) refl h (λ os. outs_read (suc n) ls rest os)
   where
-    by_out : (o : Option HubOut) → out_of (words_of l) ≡ o → option_map_or (λ o. outs_from (suc n) ls rest >>= (λ os. Ok ((n, o) ∷ os))) o (Err (n, word.Output)) ≡ Ok os → ((os : List (ℕ × HubOut)) → outs_from (suc n) ls rest ≡ Ok os → OutsRead (suc n) ls rest os) → OutsRead n (l ∷ ls) rest os
+    by_out : (o : Option HubOut) → out_of (words_of l) ≡ o → option_map_or (λ o. outs_from (suc n) ls rest >>= (λ os. Ok ((n, o) ∷ os))) o (Err (n, word.Output)) ≡ Ok os
+        → ((os : List (ℕ × HubOut)) → outs_from (suc n) ls rest ≡ Ok os → OutsRead (suc n) ls rest os) → OutsRead n (l ∷ ls) rest os
     by_out None is k rest_of = absurd (cc)
     by_out (Some o) is k rest_of =
         let b = bound_from (outs_from (suc n) ls rest) (λ os. Ok ((n, o) ∷ os)) os k in

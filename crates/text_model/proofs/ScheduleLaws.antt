@@ -5,6 +5,7 @@ use Rattle.std.specs.Option.{option_map_or}
 use Rattle.std.proofs.lemmas.Bool.{and_parts, and_from, false_from_ne_true, not-true, true≢false}
 use Rattle.std.proofs.lemmas.Grind.{flat_map-append}
 use Rattle.std.proofs.lemmas.List.{map-append}
+use Rattle.lists.proofs.Passing.{all_append}
 use Rattle.state_model.specs.Sound.{keys_differ}
 use Rattle.schema_model.specs.Classes.{Schema}
 use Rattle.schema_model.specs.Reading.{◌>>=◌}
@@ -31,7 +32,7 @@ use Rattle.text_model.proofs.LinePlain.{form_plain}
 use Rattle.text_model.proofs.LineTaken.{bound_from}
 use Rattle.text_model.proofs.NamesPlain.{id_plain}
 use Rattle.text_model.proofs.SchemaLaw.{lines_are_schema, schema_lines_formed, schema_lines_plain, schema_lines_read}
-use Rattle.text_model.proofs.Spaced.{all_append, prefix_of, prefix_of_push, is_line, is_plain, last_of, last_of_push, pieces_of-lines, spaced-words_of, text_of_lines, words_of-lines, words_of_line}
+use Rattle.text_model.proofs.Spaced.{prefix_of, prefix_of_push, is_line, is_plain, last_of, last_of_push, pieces_of-lines, spaced-words_of, text_of_lines, words_of-lines, words_of_line}
 use Rattle.text_model.proofs.WordLaws.{word_is}
 use Rattle.text_model.proofs.WordsPlain.{event_plain}
 
@@ -59,7 +60,8 @@ events_read : (n : ℕ) (ls : List (List ℕ)) (rest : List ℕ) (es : List HubE
 events_read n [] rest es h = absurd (cc)
 events_read n (l ∷ ls) rest es h = by_end (is_word (codes "end") l) refl h (λ es. events_read (suc n) ls rest es)
   where
-    by_event : (o : Option HubEvent) → event_of_line l ≡ o → option_map_or (λ e. events_from (suc n) ls rest >>= (λ es. Ok (e ∷ es))) o (Err (n, word.Event)) ≡ Ok es → ((es : List HubEvent) → events_from (suc n) ls rest ≡ Ok es → EventsRead ls rest es) → EventsRead (l ∷ ls) rest es
+    by_event : (o : Option HubEvent) → event_of_line l ≡ o → option_map_or (λ e. events_from (suc n) ls rest >>= (λ es. Ok (e ∷ es))) o (Err (n, word.Event)) ≡ Ok es
+        → ((es : List HubEvent) → events_from (suc n) ls rest ≡ Ok es → EventsRead ls rest es) → EventsRead (l ∷ ls) rest es
     by_event None is k rest_of = absurd (cc)
     by_event (Some e) is k rest_of =
         let b = bound_from (events_from (suc n) ls rest) (λ es. Ok (e ∷ es)) es k in
@@ -165,7 +167,8 @@ rooms_read n before (l ∷ ls) rest parts kept h = by_open (is_opened before l) 
           fits = r.fits;
         }
 
-    by_open : (t : Bool) → is_opened before l ≡ t → cond t (events_from (suc n) ls rest >>= (λ es. Ok (record { defs = before; events = es }))) (option_map_or (λ d. rooms_from (suc n) (before ++ d ∷ []) ls rest) (next_def before (words_of l)) (Err (n, room_word before l))) ≡ Ok parts
+    by_open : (t : Bool) → is_opened before l ≡ t → cond t (events_from (suc n) ls rest >>= (λ es. Ok (record { defs = before; events = es })))
+        (option_map_or (λ d. rooms_from (suc n) (before ++ d ∷ []) ls rest) (next_def before (words_of l)) (Err (n, room_word before l))) ≡ Ok parts
         → ((d : RoomDef) → AreKept (before ++ d ∷ []) → rooms_from (suc n) (before ++ d ∷ []) ls rest ≡ Ok parts → RoomsRead (before ++ d ∷ []) ls rest parts) → RoomsRead before (l ∷ ls) rest parts
     by_open true is k rest_of =
         let b = bound_from (events_from (suc n) ls rest) (λ es. Ok (record { defs = before; events = es })) parts k in
@@ -254,7 +257,8 @@ heading_read n schema (l ∷ ls) rest s h = by_process (process_of (words_of l))
     made : List ℕ → Parts → Schedule
     made id parts = record { schema = schema; process = id; defs = parts.defs; events = parts.events }
 
-    by_process : (o : Option (List ℕ)) → process_of (words_of l) ≡ o → option_map_or (λ id. rooms_from (suc n) [] ls rest >>= (λ parts. Ok (record { schema = schema; process = id; defs = parts.defs; events = parts.events }))) o (Err (n, word.Process)) ≡ Ok s
+    by_process : (o : Option (List ℕ)) → process_of (words_of l) ≡ o
+        → option_map_or (λ id. rooms_from (suc n) [] ls rest >>= (λ parts. Ok (record { schema = schema; process = id; defs = parts.defs; events = parts.events }))) o (Err (n, word.Process)) ≡ Ok s
         → HeadingRead schema (l ∷ ls) rest s
     by_process None is k = absurd (cc)
     by_process (Some id) is k =
@@ -354,12 +358,9 @@ schema_parted s rest h = parted (flat_map (class_lines s.classes) s.classes) (Ro
 
 -- ---- a schedule's text is read as it
 
-pub map_words : (ls : List (List (List ℕ))) → list_all is_line ls ≡ true → map words_of (map spaced ls) ≡ ls
-map_words ls h = words_of-lines ls h
-
 pub schema_read : (s : Schema) → is_spelled s ≡ true → schema_of_lines (texts_of (lines_of s)) [] ≡ Ok s
 schema_read s h =
-    ap (λ ws. lines_taken 1 empty_draft ws >>= ended (length (texts_of (lines_of s))) []) (map_words (map line_words (lines_of s)) (schema_lines_plain s h)) ∙ schema_lines_read s (length (texts_of (lines_of s))) h
+    ap (λ ws. lines_taken 1 empty_draft ws >>= ended (length (texts_of (lines_of s))) []) (words_of-lines (map line_words (lines_of s)) (schema_lines_plain s h)) ∙ schema_lines_read s (length (texts_of (lines_of s))) h
 
 -- the lines of it
 abbrev all_lines : Schedule → List (List (List ℕ))
@@ -425,6 +426,6 @@ read_is_schedule text s h = by_root (list_any is_root_line (lines_in text)) refl
         let spelled : is_spelled s.schema ≡ true = ap is_spelled g.schema_is ∙ own.1 in
         let all : is_schedule s ≡ true = and_from (is_spelled s.schema) _ spelled (and_from (is_id s.process) _ g.process (and_from (are_named_defs s.defs) (list_all is_event s.events) g.defs g.fits)) in
         let head : map words_of part ≡ map line_words (lines_of s.schema) = own.2 ∙ ap (λ t. map line_words (lines_of t)) (sym g.schema_is) in
-        let tail : map words_of rest ≡ schedule_lines s = ap (map words_of) g.lines ∙ map_words (schedule_lines s) (schedule_plain s (written_of s all)) in
+        let tail : map words_of rest ≡ schedule_lines s = ap (map words_of) g.lines ∙ words_of-lines (schedule_lines s) (schedule_plain s (written_of s all)) in
         let words : map words_of (lines_in text) ≡ all_lines s = ap (map words_of) (joined_again (lines_in text) has) ∙ (map-append words_of part rest ∙ (λ i. head i ++ tail i)) in
         (all, text_of_lines text g.nothing_left ∙ (ap lines words ∙ sym (text_is s)))

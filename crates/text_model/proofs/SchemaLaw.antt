@@ -4,12 +4,13 @@ use Rattle.std.specs.List.{list_all}
 use Rattle.std.proofs.lemmas.Bool.{and_from}
 use Rattle.std.proofs.lemmas.List.{map-append}
 use Rattle.std.proofs.lemmas.List.Folds.{list_all-map}
+use Rattle.lists.proofs.Passing.{all_append}
 use Rattle.schema_model.specs.Classes.{Schema}
 use Rattle.schema_model.specs.Reading.{◌>>=◌}
 use Rattle.schema_model.specs.declared.class.Class.{Class}
 use Rattle.text_model.specs.Marks.{is_class_name, lines, spaced}
 use Rattle.text_model.specs.Lines.{words_of, pieces_of}
-use Rattle.text_model.proofs.Spaced.{is_line, all_pass, all_append, prefix_of, last_of, prefix_of_push, last_of_push, pieces_of-lines, words_of-lines, text_of_lines}
+use Rattle.text_model.proofs.Spaced.{is_line, all_pass, prefix_of, last_of, prefix_of_push, last_of_push, pieces_of-lines, words_of-lines, text_of_lines}
 use Rattle.text_model.specs.declared.fault.SchemaFault.{SchemaFault}
 use Rattle.text_model.specs.declared.draft.DraftRoot.{DraftRoot}
 use Rattle.text_model.specs.SchemaLines.{RootLine, is_spelled, line_words, class_name, lines_of, IsSchemaText}

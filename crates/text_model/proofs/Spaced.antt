@@ -5,6 +5,7 @@ use Rattle.std.proofs.lemmas.List.Splits.{slice_split_none, slice_split_at, join
 use Rattle.std.proofs.lemmas.List.Elements.{All-nil, All-cons}
 use Rattle.std.proofs.lemmas.List.{take_at, get_or_at, length_push}
 use Rattle.std.proofs.lemmas.Bool.{and_parts, and_from, not-true, false_from_ne_true, true≢false}
+use Rattle.lists.proofs.Passing.{all_append}
 use Rattle.text_model.specs.Marks.{spaced, lines}
 use Rattle.text_model.specs.Lines.{words_of, pieces_of}
 
@@ -33,13 +34,6 @@ all_pass p q (b ∷ bs) each h =
 -- bytes of a class that c isn't of aren't c
 pub lacks_from : (p : ℕ → Bool) (c : ℕ) (w : List ℕ) → p c ≡ false → list_all p w ≡ true → lacks c w ≡ true
 lacks_from p c w out h = all_pass p (λ b. not (eqb b c)) w (λ b h. ap not (false_from_ne_true (eqb b c) (λ e. true≢false (sym h ∙ (ap p (eqb-true b c e) ∙ out))))) h
-
--- two lists whose elements pass, joined
-pub all_append : {A : Type 0} (p : A → Bool) (v w : List A) → list_all p v ≡ true → list_all p w ≡ true → list_all p (v ++ w) ≡ true
-all_append p [] w h k = k
-all_append p (b ∷ bs) w h k =
-    let parts = and_parts (p b) (list_all p bs) h in
-    and_from (p b) (list_all p (bs ++ w)) parts.0 (all_append p bs w parts.1 k)
 
 -- ---- cutting at c
 

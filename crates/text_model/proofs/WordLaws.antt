@@ -8,6 +8,7 @@ use Rattle.std.proofs.lemmas.Bool.{agree_below_at, and_parts, and_from, not-true
 use Rattle.lists.proofs.SameBytes.{same_bytes, bytes_eq_self}
 use Rattle.percent_encoding.specs.Percent.{percent_decode}
 use Rattle.percent_encoding.proofs.PercentLemmas.{percent_decode-nil, percent_decode_escape, percent_decode_not_percent}
+use Rattle.lists.proofs.Options.{mapped_some}
 use Rattle.schema_model.specs.declared.value.Value.{Value}
 use Rattle.schema_model.specs.declared.value.Value.TheVariants.{Whole, Str, Truth, Link}
 use Rattle.frame_model.specs.declared.frame.MsgKind.{MsgKind}
@@ -19,7 +20,7 @@ use Rattle.text_model.specs.Lines.{is_word, passing, some_if}
 use Rattle.text_model.specs.Marks.{escape_digit, escaped, hex_byte, hex_digit, hex_word, is_id, quoted}
 use Rattle.text_model.specs.Outputs.{kind_word}
 use Rattle.text_model.specs.WordForms.{are_bytes, hex_of, hex_pairs, hex_value, id_of, is_text, kind_of, plain, plain_bytes, plain_of, plain_text_of, quoted_of, tag_of_word, truth_of, value_of, value_word, whole_of}
-use Rattle.text_model.proofs.Choices.{choose_if, chosen_if, mapped_of, pass, passed}
+use Rattle.text_model.proofs.Choices.{choose_if, chosen_if, pass, passed}
 use Rattle.text_model.proofs.DecimalLaw.{decimal_digits, decimal_read, decimal_some, read_decimal, read_signed, signed_read}
 
 -- a word that is this one
@@ -173,7 +174,7 @@ truth_read w v h = by_true (is_word (codes "true") w) refl h
 
 whole_read : (w : List ℕ) (v : Value) → whole_of w ≡ Some v → (w ≡ value_word v) × (is_value v ≡ true)
 whole_read w v h =
-    let m = mapped_of Whole (signed_within (2 ^ 127) w) v h in
+    let m = mapped_some Whole (signed_within (2 ^ 127) w) v h in
     let z = signed_read (2 ^ 127) w m.0 (omega arith) m.1 in
     (z.0 ∙ ap value_word m.2, ap is_value (sym m.2) ∙ z.1)
 
@@ -191,7 +192,7 @@ value_read (c ∷ w) v h = by_quote (c == 39) h
 
     by_link : (t : Bool) → (c == 35) ≡ t → cond t (option_map Link (decimal_below (2 ^ 32) w)) (cond (c == 116) (truth_of (c ∷ w)) (cond (c == 102) (truth_of (c ∷ w)) (whole_of (c ∷ w)))) ≡ Some v → (c ∷ w ≡ value_word v) × (is_value v ≡ true)
     by_link true is k =
-        let m = mapped_of Link (decimal_below (2 ^ 32) w) v k in
+        let m = mapped_some Link (decimal_below (2 ^ 32) w) v k in
         let n = decimal_read (2 ^ 32) w m.0 (omega arith) m.1 in
         ((λ i. eqb-true c 35 is i ∷ n.0 i) ∙ ap value_word m.2, ap is_value (sym m.2) ∙ lt-ltb m.0 (2 ^ 32) n.1)
     by_link false is k = by_true (c == 116) k
@@ -199,7 +200,7 @@ value_read (c ∷ w) v h = by_quote (c == 39) h
     by_quote : (t : Bool) → cond t (option_map Str (quoted_of (c ∷ w))) (cond (c == 35) (option_map Link (decimal_below (2 ^ 32) w)) (cond (c == 116) (truth_of (c ∷ w)) (cond (c == 102) (truth_of (c ∷ w)) (whole_of (c ∷ w))))) ≡ Some v
         → (c ∷ w ≡ value_word v) × (is_value v ≡ true)
     by_quote true k =
-        let m = mapped_of Str (quoted_of (c ∷ w)) v k in
+        let m = mapped_some Str (quoted_of (c ∷ w)) v k in
         let q = quoted_read (c ∷ w) m.0 m.1 in
         (q.0 ∙ ap value_word m.2, ap is_value (sym m.2) ∙ q.1)
     by_quote false k = by_link (c == 35) refl k
@@ -251,11 +252,11 @@ kind_read (c ∷ w) k h = by_quote (c == 39) h
     by_quote : (t : Bool) → cond t (passing is_short_kind (option_map Name (quoted_of (c ∷ w)))) (option_map Num (signed_within (2 ^ 31) (c ∷ w))) ≡ Some k → (c ∷ w ≡ kind_word k) × (is_kind k ≡ true)
     by_quote true h =
         let p = passed is_short_kind (option_map Name (quoted_of (c ∷ w))) k h in
-        let m = mapped_of Name (quoted_of (c ∷ w)) k p.0 in
+        let m = mapped_some Name (quoted_of (c ∷ w)) k p.0 in
         let q = quoted_read (c ∷ w) m.0 m.1 in
         (q.0 ∙ ap kind_word m.2, ap is_kind (sym m.2) ∙ and_from (is_text m.0) _ q.1 (ap is_short_kind m.2 ∙ p.1))
     by_quote false h =
-        let m = mapped_of Num (signed_within (2 ^ 31) (c ∷ w)) k h in
+        let m = mapped_some Num (signed_within (2 ^ 31) (c ∷ w)) k h in
         let z = signed_read (2 ^ 31) (c ∷ w) m.0 (omega arith) m.1 in
         (z.0 ∙ ap kind_word m.2, ap is_kind (sym m.2) ∙ z.1)
 
@@ -281,7 +282,7 @@ tag_read w z h = by_default (is_word (codes "-1") w) refl h
         let is : negsuc 0 ≡ z = cc in
         (word_is (codes "-1") w same ∙ (one_is ∙ ap signed_text is), ap is_view_tag (sym is))
     by_default false other k =
-        let m = mapped_of pos (decimal_below 256 w) z k in
+        let m = mapped_some pos (decimal_below 256 w) z k in
         let n = decimal_read 256 w m.0 (omega arith) m.1 in
         (n.0 ∙ ap signed_text m.2, ap is_view_tag (sym m.2) ∙ lt-ltb m.0 256 n.1)
 

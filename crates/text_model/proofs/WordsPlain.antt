@@ -24,9 +24,10 @@ use Rattle.text_model.specs.Marks.{escaped, hex_byte, hex_word, is_id, quoted}
 use Rattle.text_model.specs.Outputs.{kind_word}
 use Rattle.text_model.specs.WordForms.{are_bytes, is_text, plain, value_word}
 use Rattle.std.specs.Str.{is_utf8}
+use Rattle.lists.proofs.Passing.{all_append}
 use Rattle.text_model.proofs.DecimalLaw.{decimal_plain, signed_plain}
 use Rattle.text_model.proofs.NamesPlain.{id_plain}
-use Rattle.text_model.proofs.Spaced.{all_append, is_line, is_plain}
+use Rattle.text_model.proofs.Spaced.{is_line, is_plain}
 use Rattle.text_model.proofs.WordLaws.{code_low}
 
 -- ---- numbers

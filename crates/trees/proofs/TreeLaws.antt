@@ -7,6 +7,7 @@ use Rattle.std.proofs.lemmas.Bool.Decides.{nat_tests}
 use Rattle.lists.specs.Rising.{RisesFrom, IsAbove, find, put, remove}
 use Rattle.std.specs.List.{list_any}
 use Rattle.lists.proofs.RisingLaws.{find_below, remove_missing, RisesFrom-lower}
+use Rattle.lists.proofs.Places.{above_prefix}
 use Rattle.trees.specs.Trees.{entry_values, IsKeyed}
 
 module _ {X : Type 0} (key : X → ℕ) where
@@ -57,14 +58,6 @@ pub moved : {X : Type 0} (key : X → ℕ) (all left rest : List X) (x : X) (don
 moved key all left rest x done r h p =
     let whole : all ≡ rest ++ x ∷ done = h ∙ ap (λ l. l ++ done) p ∙ shifted rest x done in
     rw (put_before key 0 rest x done (rw whole at r)) whole
-
-at_least : {X : Type 0} (key : X → ℕ) (low : ℕ) (xs : List X) (x : X) (ys : List X) → RisesFrom key low (xs ++ x ∷ ys) → low ≤ key x
-at_least key low [] x ys r = r.0
-at_least key low (z ∷ xs) x ys r = omega (arith, r.0, at_least key (suc (key z)) xs x ys r.1)
-
-above_prefix : {X : Type 0} (key : X → ℕ) (low : ℕ) (xs : List X) (x : X) (ys : List X) → RisesFrom key low (xs ++ x ∷ ys) → IsAbove key (key x) xs
-above_prefix key low [] x ys r = tt
-above_prefix key low (z ∷ xs) x ys r = (at_least key (suc (key z)) xs x ys r.1, above_prefix key (suc (key z)) xs x ys r.1)
 
 -- what is left without the first entry
 pub first_out : {X : Type 0} (key : X → ℕ) (es : List (ℕ × X)) (p : ℕ × X) (rest : List (ℕ × X)) → es ≡ p ∷ rest → IsKeyed key es →

@@ -1,5 +1,5 @@
 //! State frames decoded and refused: what the scripts of rooms don't reach.
-use crate::script::{lines_of, schema_of, told};
+use crate::script::{lines_of, rows_text, schema_of};
 use patch_decoder::{Decoder, OpFault};
 use schema_model::ReadFault::{BadForm, BadText, Short};
 use std::alloc::Global;
@@ -25,9 +25,9 @@ fn feed(alloc: Global, decoder: &mut Decoder, frame: &str) -> Result<Result<(), 
 
 // What the decoder makes of a frame: its rows, or the fault, where it changes nothing.
 fn answer(alloc: Global, decoder: &mut Decoder, frame: &str) -> Result<String, Fail> {
-    let before = told(alloc, &decoder.rows()?)?;
+    let before = rows_text(alloc, &decoder.rows()?)?;
     let answer = feed(alloc, decoder, frame)?;
-    let after = told(alloc, &decoder.rows()?)?;
+    let after = rows_text(alloc, &decoder.rows()?)?;
     match answer {
         Ok(()) => Ok(after),
         Err(_) if after != before => Err(Fail::new("a refused frame changed the rows")),

@@ -1,6 +1,6 @@
 //! Rows that hold each other: held, swept, read and led to in a table, and reached, freed and shown as plain rows.
-use crate::script::{schema_of, told};
-use crate::table::{GAME, NODES, rows_after, run, told_numbers};
+use crate::script::{rows_text, schema_of};
+use crate::table::{GAME, NODES, numbers_text, rows_after, run};
 use plain_rows::{freed, freed_of, permitted, reached};
 use schema_model::{Pair, RefNum, Tag};
 use std::test::Fail;
@@ -120,13 +120,13 @@ fn rows_are_reached_and_freed(rt: HostRuntime) -> Result<(), Fail> {
     let rows = rows_after(alloc, &schema_of(alloc, NODES)?, LINKS)?;
     for (from, expected) in [(0, "0 2 3"), (1, "1 3 4"), (3, "3"), (9, "9")] {
         let found = reached(alloc, &rows, RefNum(from))?;
-        assert_eq!(rt; told_numbers(alloc, &found)?.as_str(), expected);
+        assert_eq!(rt; numbers_text(alloc, &found)?.as_str(), expected);
     }
     let left = freed(alloc, &rows)?;
-    assert_eq!(rt; told(alloc, &left)?.as_str(), "0(0=#2 )2(0=#3 )3()");
+    assert_eq!(rt; rows_text(alloc, &left)?.as_str(), "0(0=#2 )2(0=#3 )3()");
     for rows in [rows, left] {
         let left = freed_of(alloc, rows)?;
-        assert_eq!(rt; told(alloc, &left)?.as_str(), "0(0=#2 )2(0=#3 )3()");
+        assert_eq!(rt; rows_text(alloc, &left)?.as_str(), "0(0=#2 )2(0=#3 )3()");
     }
     Ok(())
 }
@@ -162,7 +162,7 @@ fn members_see_what_they_may(rt: HostRuntime) -> Result<(), Fail> {
             pairs.push(Pair { who, tag })?;
         }
         let view = permitted(rt.alloc(), &schema, &rows, pairs.as_slice())?;
-        assert_eq!(rt; told(rt.alloc(), &view)?.as_str(), expected);
+        assert_eq!(rt; rows_text(rt.alloc(), &view)?.as_str(), expected);
     }
     Ok(())
 }

@@ -38,7 +38,7 @@ fn event_of(alloc: Global, text: &str) -> Result<HubEvent, Fail> {
 // ---- what is given
 
 // The line of an output, without its end.
-fn told_out(alloc: Global, out: &HubOut) -> Result<String, Fail> {
+fn out_text(alloc: Global, out: &HubOut) -> Result<String, Fail> {
     let mut line = Vec::new(alloc);
     print_out(&mut line, out)?;
     line.pop();
@@ -51,7 +51,7 @@ fn told_out(alloc: Global, out: &HubOut) -> Result<String, Fail> {
 // Adds the lines of outputs to the answers.
 fn tell(alloc: Global, outs: &HubOuts, answers: &mut String) -> Result<(), Fail> {
     for out in outs.as_slice() {
-        add_answer(answers, &told_out(alloc, out)?)?;
+        add_answer(answers, &out_text(alloc, out)?)?;
     }
     Ok(())
 }
@@ -60,7 +60,7 @@ fn tell(alloc: Global, outs: &HubOuts, answers: &mut String) -> Result<(), Fail>
 fn tell_refusals(alloc: Global, outs: &HubOuts, answers: &mut String) -> Result<(), Fail> {
     for out in outs.as_slice() {
         if matches!(out, HubOut::Refused(_)) {
-            add_answer(answers, &told_out(alloc, out)?)?;
+            add_answer(answers, &out_text(alloc, out)?)?;
         }
     }
     Ok(())

@@ -126,7 +126,7 @@ fn command_at(
 }
 
 /// A value as it is written in scripts.
-pub fn told_value(alloc: Global, value: &Value) -> Result<String, Memory> {
+pub fn value_text(alloc: Global, value: &Value) -> Result<String, Memory> {
     Ok(match value {
         Value::Whole(number) => format!(in alloc; "{number}")?,
         Value::Str(text) => format!(in alloc; "'{}", text.as_str())?,
@@ -136,28 +136,28 @@ pub fn told_value(alloc: Global, value: &Value) -> Result<String, Memory> {
 }
 
 // The places of a row: `field=value`, `number:key=value`, `value`, `number:value`, each with a blank behind it.
-fn told_places(alloc: Global, row: &Row) -> Result<String, Memory> {
+fn places_text(alloc: Global, row: &Row) -> Result<String, Memory> {
     let mut out = String::new(alloc);
     match row {
         Row::Struct(_, fields) => {
             for FieldValue { field, value } in fields.as_slice() {
-                out.push_str(&format!(in alloc; "{field}={} ", told_value(alloc, value)?)?)?;
+                out.push_str(&format!(in alloc; "{field}={} ", value_text(alloc, value)?)?)?;
             }
         }
         Row::Map(_, items) => {
             for MapItem { number, key, value } in items.as_slice() {
-                let value = told_value(alloc, value)?;
+                let value = value_text(alloc, value)?;
                 out.push_str(&format!(in alloc; "{number}:{}={value} ", key.as_str())?)?;
             }
         }
         Row::Array(_, values) => {
             for value in values.as_slice() {
-                out.push_str(&format!(in alloc; "{} ", told_value(alloc, value)?)?)?;
+                out.push_str(&format!(in alloc; "{} ", value_text(alloc, value)?)?)?;
             }
         }
         Row::Set(_, items) => {
             for SetItem { number, value } in items.as_slice() {
-                out.push_str(&format!(in alloc; "{number}:{} ", told_value(alloc, value)?)?)?;
+                out.push_str(&format!(in alloc; "{number}:{} ", value_text(alloc, value)?)?)?;
             }
         }
     }
@@ -165,7 +165,7 @@ fn told_places(alloc: Global, row: &Row) -> Result<String, Memory> {
 }
 
 /// Rows, as in `0(0=#1 )1(0:s1=#2 )2.1(0='a )`: an instance has its class, where it isn't the first one.
-pub fn told(alloc: Global, rows: &Rows) -> Result<String, Memory> {
+pub fn rows_text(alloc: Global, rows: &Rows) -> Result<String, Memory> {
     let mut out = String::new(alloc);
     for entry in rows.as_slice() {
         out.push_str(&format!(in alloc; "{}", entry.who.0)?)?;
@@ -174,7 +174,7 @@ pub fn told(alloc: Global, rows: &Rows) -> Result<String, Memory> {
                 out.push_str(&format!(in alloc; ".{}", class.0)?)?;
             }
         }
-        let places = told_places(alloc, &entry.row)?;
+        let places = places_text(alloc, &entry.row)?;
         out.push_str(&format!(in alloc; "({places})")?)?;
     }
     Ok(out)

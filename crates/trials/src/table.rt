@@ -1,7 +1,7 @@
 //! A table under test: what it does and what it answers, as text.
 ghost use Rattle.std.specs.Prelude.{◌≡◌, ◌<◌};
 
-use crate::script::{add_answer, command_of, lines_of, row_of, schema_of, told_value};
+use crate::script::{add_answer, command_of, lines_of, row_of, schema_of, value_text};
 use instance_table::Table;
 use lists::Memory;
 use schema_model::{Key, Place, RefNum, Schema, Tag};
@@ -22,7 +22,7 @@ pub const GAME: &str =
     "class State\nfield count uint16\nfield name string\nfield next State\nfield leader Player\nfield numbers array number\nfield texts array string\nfield tags set string\nfield players map Player\nfield hand array Card view\nfield pile array Card\nfield marks set number\nfield flags set boolean\nfield team set Player\nclass Player\nfield name string\nfield gold number view\nfield ready boolean\nclass Card\nfield rank number\nclass Guest : Player\nroot State\n";
 
 /// Numbers of rows, or how many there are where there are many.
-pub fn told_numbers(alloc: Global, numbers: &[RefNum]) -> Result<String, Memory> {
+pub fn numbers_text(alloc: Global, numbers: &[RefNum]) -> Result<String, Memory> {
     if numbers.len() > 16 {
         return Ok(format!(in alloc; "{} rows", numbers.len())?);
     }
@@ -67,7 +67,7 @@ fn holders<L: Ledger>(
         let holder = table.holder_at(who, n, steps).ok_or("no holder")?;
         found.push(holder)?;
     }
-    Ok(told_numbers(alloc, &found)?)
+    Ok(numbers_text(alloc, &found)?)
 }
 
 // What is behind a row under a tag.
@@ -80,7 +80,7 @@ fn behind<L: Ledger>(
 ) -> Result<String, Fail> {
     let tag = Tag(tag.parse::<i16>()?);
     match table.behind(who, tag, steps)? {
-        Some(found) => Ok(told_numbers(alloc, &found)?),
+        Some(found) => Ok(numbers_text(alloc, &found)?),
         None => Ok(String::from_str(alloc, "no row")?),
     }
 }
@@ -94,7 +94,7 @@ fn look<L: Ledger>(
     steps: &mut Steps<L>,
 ) -> Result<String, Fail> {
     match table.read(Place { holder, key }, steps) {
-        Some(value) => Ok(told_value(alloc, value)?),
+        Some(value) => Ok(value_text(alloc, value)?),
         None => Ok(String::from_str(alloc, "nothing")?),
     }
 }
@@ -109,7 +109,7 @@ fn answer<L: Ledger>(
 ) -> Result<String, Fail> {
     if text == "sweep" {
         table.sweep();
-        return Ok(told_numbers(alloc, table.swept())?);
+        return Ok(numbers_text(alloc, table.swept())?);
     }
     let words: Vec<&str> = text.split(' ').collect(alloc)?;
     match found(alloc, table, &words, steps)? {

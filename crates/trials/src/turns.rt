@@ -202,7 +202,7 @@ fn letter(session: Id) -> char {
     char::from(session.0[0])
 }
 
-fn told_out(alloc: Global, out: &RoomOut) -> Result<String, Fail> {
+fn out_text(alloc: Global, out: &RoomOut) -> Result<String, Fail> {
     Ok(match out {
         RoomOut::Send(session, bytes) => {
             let hex = hex::encode(alloc, bytes.as_slice())?;
@@ -218,15 +218,15 @@ fn told_out(alloc: Global, out: &RoomOut) -> Result<String, Fail> {
         RoomOut::Made(number) => format!(in alloc; "made {}", number.0)?,
         RoomOut::Refused(refusal) => format!(in alloc; "refused: {refusal}")?,
         RoomOut::Message(session, kind, payload) => {
-            told_message(alloc, *session, "says", kind, payload)?
+            message_text(alloc, *session, "says", kind, payload)?
         }
         RoomOut::RawMessage(session, kind, payload) => {
-            told_message(alloc, *session, "sends", kind, payload)?
+            message_text(alloc, *session, "sends", kind, payload)?
         }
     })
 }
 
-fn told_message(
+fn message_text(
     alloc: Global,
     session: Id,
     verb: &str,
@@ -256,7 +256,7 @@ fn given<L: Ledger>(
             continue;
         }
         for out in game.give(rt, alloc, event, steps)?.as_slice() {
-            add_answer(&mut answers, &told_out(alloc, out)?)?;
+            add_answer(&mut answers, &out_text(alloc, out)?)?;
         }
     }
     Ok(answers)

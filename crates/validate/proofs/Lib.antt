@@ -1,5 +1,5 @@
 pub mod Characters
-pub mod QuotedSteps
-pub mod Lexemes
 pub mod Lexed
+pub mod Lexemes
 pub mod Lists
+pub mod QuotedSteps

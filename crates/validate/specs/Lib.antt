@@ -1,4 +1,4 @@
-pub mod Json
 pub mod Documents
-pub mod Quoted
+pub mod Json
 pub mod Marks
+pub mod Quoted

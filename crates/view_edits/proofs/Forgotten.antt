@@ -4,13 +4,13 @@ use Rattle.std.specs.List.{list_all}
 use Rattle.std.proofs.lemmas.Bool.{and_parts}
 use Rattle.std.proofs.lemmas.Bool.Decides.{nat_tests}
 use Rattle.std.proofs.lemmas.List.Elements.{filter_agree}
+use Rattle.lists.proofs.Passing.{filter_all, list_any-map}
 use Rattle.schema_model.specs.declared.place.Pair.{Pair}
 use Rattle.state_model.specs.declared.row.RowEntry.{RowEntry}
 use Rattle.state_model.specs.Members.{Members, live_members}
 use Rattle.state_model.specs.Reached.{is_among, freed}
 use Rattle.state_model.specs.Rows.{is_live}
 use Rattle.state_laws.proofs.Numbers.{among_both, live_chosen}
-use Rattle.state_laws.proofs.Tests.{list_any-map}
 use Rattle.instance_table.specs.Table.{TableState, freed_numbers}
 use Rattle.live_state.specs.Live.{swept_table}
 use Rattle.view_members.specs.Sets.{without_row}
@@ -22,11 +22,6 @@ use Rattle.view_edits.specs.There.{are_there, without_rows}
 filter_again : {X : Type 0} (p q : X → Bool) (xs : List X) → filter q (filter p xs) ≡ filter (λ x. p x && q x) xs
 filter_again p q [] = refl
 filter_again p q (x ∷ xs) = grind (arith, nat_tests, filter_again p q xs)
-
--- a filter that keeps all
-filter_all : {X : Type 0} (xs : List X) → filter (λ x. true) xs ≡ xs
-filter_all [] = refl
-filter_all (x ∷ xs) = ap (λ ys. x ∷ ys) (filter_all xs)
 
 -- two tests that agree on items that pass a third keep the same of them
 filter_alike : {X : Type 0} (r p q : X → Bool) (xs : List X) → ((x : X) → r x ≡ true → p x ≡ q x) → list_all r xs ≡ true → filter p xs ≡ filter q xs

@@ -1,2 +1,3 @@
-pub mod There
 pub mod Forgotten
+pub mod FullViews
+pub mod There

@@ -1,2 +1,2 @@
-pub mod There
 pub mod Edited
+pub mod There

@@ -3,6 +3,7 @@
 
 mod edits;
 pub mod fault;
+mod in_place;
 
 pub use edits::{forget_freed, hide, show};
 pub use fault::EditFault;

@@ -39,7 +39,8 @@ pub add_rises : (es : List (ℕ × Standing)) (r : ℕ) → RisesFrom entry_rank
 add_rises es r rises = set_rises es r (option_map after_coming (standing_of r es)) rises
 
 -- who has an entry still has one, and room that is come into is room no more
-add_has_case : (t : Standing → Bool) (b : Bool) → ((s : Standing) → t (after_coming s) ≡ b) → (es : List (ℕ × Standing)) (r k : ℕ) (o : Option Standing) → standing_of r es ≡ o → has t (set_at r (option_map after_coming o) es) k ≡ cond (is_some o && r == k) b (has t es k)
+add_has_case : (t : Standing → Bool) (b : Bool) → ((s : Standing) → t (after_coming s) ≡ b) → (es : List (ℕ × Standing)) (r k : ℕ) (o : Option Standing) → standing_of r es ≡ o
+    → has t (set_at r (option_map after_coming o) es) k ≡ cond (is_some o && r == k) b (has t es k)
 add_has_case t b h es r k None i = refl
 add_has_case t b h es r k (Some s) i = has-put t r (after_coming s) es k ∙ ap (λ c. cond (r == k) c (has t es k)) (h s)
 

@@ -2,6 +2,7 @@ pub mod AddLaws
 pub mod EntryLaws
 pub mod KeptLaws
 pub mod MemberLaws
+pub mod MissingLaws
 pub mod PairLists
 pub mod PlaceLaws
 pub mod RankLists
@@ -9,4 +10,3 @@ pub mod RowLaws
 pub mod SpareLaws
 pub mod StandingLaws
 pub mod TickLaws
-pub mod WantedLaws

@@ -21,7 +21,8 @@ ranks_missing : (t : Standing → Bool) (es : List (ℕ × Standing)) (r : ℕ) 
 ranks_missing t es r rises h = sym (remove_missing itself r (ranks_of t es) (find-ranks t 0 es r rises ∙ ap (λ b. cond b (Some r) None) h))
 
 -- the entries after a pair leaves
-remove_case : (es : List (ℕ × Standing)) (r : ℕ) → RisesFrom entry_rank 0 es → (o : Option Standing) → standing_of r es ≡ o → (t : Standing → Bool) → ((s : Standing) → t (after_leaving s) ≡ t s) → ranks_of t (set_at r (option_map after_leaving o) es) ≡ ranks_of t es
+remove_case : (es : List (ℕ × Standing)) (r : ℕ) → RisesFrom entry_rank 0 es → (o : Option Standing) → standing_of r es ≡ o → (t : Standing → Bool) → ((s : Standing) → t (after_leaving s) ≡ t s)
+    → ranks_of t (set_at r (option_map after_leaving o) es) ≡ ranks_of t es
 remove_case es r rises None h t same = refl
 remove_case es r rises (Some s) h t same = put_same t r (after_leaving s) es rises (has_some t es r s h ∙ sym (same s))
 

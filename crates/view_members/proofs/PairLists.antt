@@ -1,5 +1,5 @@
 -- Lists of pairs as lists of their ranks.
-use Rattle.std.proofs.Common.{◌≡◌, ℕ, suc, ◌+◌, ◌*◌, ◌/◌, ◌%◌, Bool, true, not, ◌&&◌, ◌||◌, ◌==◌, List, [], ◌∷◌, map, filter, is_some, ℤ, pos, negsuc, nat_abs, ◌+ℤ◌, ◌-ℤ◌, ◌≤ℤ◌, refl, sym, ap, ap₂, ◌∙◌, arith}
+use Rattle.std.proofs.Common.{◌≡◌, ℕ, suc, ◌+◌, ◌*◌, ◌/◌, ◌%◌, Bool, not, ◌&&◌, ◌||◌, ◌==◌, List, [], ◌∷◌, map, filter, is_some, ℤ, pos, negsuc, nat_abs, ◌+ℤ◌, ◌-ℤ◌, ◌≤ℤ◌, refl, sym, ap, ap₂, ◌∙◌, arith}
 use Rattle.std.specs.Bool.{Decides}
 use Rattle.std.specs.Int.{w16}
 use Rattle.std.specs.Int.RustNames.{FitsSigned}
@@ -11,6 +11,7 @@ use Rattle.schema_model.specs.declared.place.Pair.{Pair}
 use Rattle.state_model.specs.Members.{pair_rank, with_pairs, without_pairs}
 use Rattle.state_model.specs.Shown.{is_member}
 use Rattle.state_model.specs.Values.{same_whole}
+use Rattle.state_laws.proofs.SameValues.{whole_self, same_whole_sym, whole_is}
 use Rattle.view_members.specs.declared.standing.Standing.{Standing}
 use Rattle.view_members.specs.Standings.{itself, pair_of_rank, ranks_of, pairs_of}
 
@@ -26,22 +27,8 @@ mapped_filter f p q h (r ∷ rs) = grind (arith, nat_tests, h r, mapped_filter f
 pub rank_again : (r : ℕ) → pair_rank (pair_of_rank r) ≡ r
 rank_again r = omega (arith, ints)
 
--- the test of whole numbers decides whether they are equal
-whole_is : (a b : ℤ) → same_whole a b ≡ true → a ≡ b
-whole_is (pos a) (pos b) h = ap pos (grind (arith, nat_tests))
-whole_is (pos a) (negsuc b) h = cc
-whole_is (negsuc a) (pos b) h = cc
-whole_is (negsuc a) (negsuc b) h = ap negsuc (grind (arith, nat_tests))
-
-whole_self : (a : ℤ) → same_whole a a ≡ true
-whole_self (pos a) = grind (arith, nat_tests)
-whole_self (negsuc a) = grind (arith, nat_tests)
-
 whole_decides : (a b : ℤ) → Decides (same_whole a b) (a ≡ b)
 whole_decides a b = (whole_is a b, λ e. rw e (whole_self b))
-
-whole_sym : (a b : ℤ) → same_whole a b ≡ same_whole b a
-whole_sym a b = same_from_decides _ _ (whole_decides a b) (λ h. sym (whole_is b a h), λ e. rw e (whole_self b))
 
 -- a pair is that of a rank
 ranked : (who r : ℕ) (tag : ℤ) → FitsSigned w16 tag → (r / 65536 ≡ who) × (pos (r % 65536) -ℤ pos 32768 ≡ tag) → r ≡ 65536 * who + nat_abs (tag +ℤ pos 32768)
@@ -89,7 +76,7 @@ member_ranked [] who tag f = refl
 member_ranked (r ∷ rs) who tag f = grind (arith, nat_tests, same_rank r who tag f, member_ranked rs who tag f)
 
 member_one : (p : Pair) (r : ℕ) → FitsSigned w16 p.tag → is_member (p ∷ []) (pair_of_rank r).who (pair_of_rank r).tag ≡ (r == pair_rank p)
-member_one p r f = grind (arith, nat_tests, same_rank r p.who p.tag f, whole_sym p.tag (pos (r % 65536) -ℤ pos 32768))
+member_one p r f = grind (arith, nat_tests, same_rank r p.who p.tag f, same_whole_sym p.tag (pos (r % 65536) -ℤ pos 32768))
 
 -- pairs without one
 pub pairs-remove : (p : Pair) (rs : List ℕ) → FitsSigned w16 p.tag → without_pairs (map pair_of_rank rs) (p ∷ []) ≡ map pair_of_rank (remove itself (pair_rank p) rs)

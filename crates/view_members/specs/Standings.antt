@@ -168,13 +168,13 @@ MakesRoom r old new (Err ViewFull) = (new ≡ old) × (65536 < length (with_spar
 MakesRoom r old new (Err Memory) = (new ≡ old) × (length (with_spare r old) ≤ 65536)
 
 -- room for the pair of a rank is an entry more, where room for these pairs is taken behind it
-abbrev pub is_wanted : ℕ → List Pair → List (ℕ × Standing) → Bool
-is_wanted r later es = is_none (standing_of r es) && not (is_ranked later r)
+abbrev pub is_missing : ℕ → List Pair → List (ℕ × Standing) → Bool
+is_missing r later es = is_none (standing_of r es) && not (is_ranked later r)
 
 -- how many entries more there are with room for pairs
-abbrev pub wanted : List Pair → List (ℕ × Standing) → ℕ
-wanted [] es = 0
-wanted (p ∷ ps) es = cond (is_wanted (pair_rank p) ps es) 1 0 + wanted ps es
+abbrev pub missing : List Pair → List (ℕ × Standing) → ℕ
+missing [] es = 0
+missing (p ∷ ps) es = cond (is_missing (pair_rank p) ps es) 1 0 + missing ps es
 
 -- why there is no room for pairs: they are too many; out of memory is told only where they aren't
 abbrev pub HasNoRoom : List Pair → List (ℕ × Standing) → MemberFault → Type 0

@@ -1,4 +1,4 @@
-ghost use Rattle.std.specs.Prelude.{◌≡◌, ◌+◌, [], ◌∷◌, IfOk, slice_get};
+ghost use Rattle.std.specs.Prelude.{◌≡◌, ◌+◌, [], ◌∷◌, IfOk, length, nat_le, slice_get};
 ghost use Rattle.state_model.specs.Members.{no_members, changed_pairs, ticked};
 ghost use Rattle.state_model.specs.Shown.{is_member};
 ghost use Rattle.view_members.specs.Sets.{Adds, AreKept, without_all, without_row};
@@ -6,7 +6,9 @@ ghost use Rattle.view_members.specs.Sets.{Adds, AreKept, without_all, without_ro
 use crate::fault::MemberFault;
 use crate::rank::rank_of;
 use crate::sets::Sets;
-use crate::turns::{add_each, forget_passed, remove, remove_row, settle_changed, take_room};
+use crate::turns::{
+    add_each, forget_passed, has_room, remove, remove_row, settle_changed, take_room,
+};
 use lists::Memory;
 use schema_model::{Pair, RefNum};
 use std::alloc::Global;
@@ -42,6 +44,14 @@ impl Members {
         Ok(Members {
             sets: Sets::new(alloc),
         })
+    }
+
+    /// Whether so many pairs more, of which none is kept, wouldn't be too many.
+    pub fn has_room(&self, more: usize) -> bool
+        ensures { result ≡ nat_le (length self.now.kept + more) 65536 }
+    {
+        self.sets.keeps();
+        has_room(&self.sets, more)
     }
 
     /// Adds pairs, in any order and with repeats: all of them or none. Where they would be too many

@@ -1,8 +1,8 @@
 //! Pairs that come and leave, and what a tick's end makes of them.
-ghost use Rattle.std.specs.Prelude.{◌≡◌, ◌<◌, ◌≤◌, ◌^◌, [], length, nat_lt};
+ghost use Rattle.std.specs.Prelude.{◌≡◌, ◌+◌, ◌<◌, ◌≤◌, ◌^◌, [], length, nat_le, nat_lt};
 ghost use Rattle.view_members.specs.declared.fault.MemberFault.TheVariants.{ViewFull};
 ghost use Rattle.view_members.specs.Sets.{without_row};
-ghost use Rattle.view_members.specs.Standings.{is_now, is_changed, is_passed, is_ranked, is_spare, is_wanted, ranks_of, members_of, add_at, remove_at, add_all, wanted, with_spares, without_spare, without_spares, AllFit, HasNoRoom, IsKept, MakesRoom, TakesRoom, settled_at};
+ghost use Rattle.view_members.specs.Standings.{is_now, is_changed, is_passed, is_ranked, is_spare, is_missing, ranks_of, members_of, add_at, remove_at, add_all, missing, with_spares, without_spare, without_spares, AllFit, HasNoRoom, IsKept, MakesRoom, TakesRoom, settled_at};
 
 use crate::fault::MemberFault;
 use crate::rank::{TAGS, rank_of};
@@ -105,8 +105,8 @@ fn is_ranked(pairs: &[Pair], rank: u64) -> bool
 }
 
 // Whether room for the pair of a rank is an entry more, where room for these pairs is taken after it.
-fn is_wanted(sets: &Sets, rank: u64, later: &[Pair]) -> bool
-    ensures { result ≡ is_wanted rank later.now sets.now }
+fn is_missing(sets: &Sets, rank: u64, later: &[Pair]) -> bool
+    ensures { result ≡ is_missing rank later.now sets.now }
 {
     match sets.get(rank) {
         Some(_) => false,
@@ -116,13 +116,13 @@ fn is_wanted(sets: &Sets, rank: u64, later: &[Pair]) -> bool
 
 // How many entries more there are with room for these pairs. Each is looked for among all after it, which takes the
 // square of their number: this is asked only where memory ran out.
-fn wanted(sets: &Sets, pairs: &[Pair]) -> usize
-    ensures { result ≡ wanted pairs.now sets.now }
+fn missing(sets: &Sets, pairs: &[Pair]) -> usize
+    ensures { result ≡ missing pairs.now sets.now }
 {
     let mut count = 0;
     let mut left = pairs;
     while let [pair, later @ ..] = left {
-        if is_wanted(sets, rank_of(*pair), later) {
+        if is_missing(sets, rank_of(*pair), later) {
             count += 1;
         }
         left = later;
@@ -136,7 +136,7 @@ fn are_too_many(sets: &Sets, pairs: &[Pair]) -> bool
     ensures { result ≡ nat_lt 65536 (length (with_spares pairs.now sets.now)) }
 {
     sets.keeps();
-    wanted(sets, pairs) > LIMIT - sets.len()
+    missing(sets, pairs) > LIMIT - sets.len()
 }
 
 // Why there is no room for these pairs, where one of them got none for this cause. Without memory for an earlier one a
@@ -150,6 +150,14 @@ fn why_no_room(sets: &Sets, pairs: &[Pair], fault: MemberFault) -> MemberFault
         MemberFault::Memory if are_too_many(sets, pairs) => MemberFault::ViewFull,
         fault => fault,
     }
+}
+
+/// Whether there may be so many entries more.
+pub fn has_room(sets: &Sets, more: usize) -> bool
+    requires { length sets.now ≤ 65536 }
+    ensures { result ≡ nat_le (length sets.now + more) 65536 }
+{
+    more <= LIMIT - sets.len()
 }
 
 /// Room for these pairs, as far as they have no entries. An `Err` changes nothing.

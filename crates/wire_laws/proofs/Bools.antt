@@ -15,10 +15,3 @@ or_moved false b c = refl
 pub in_either : (a b c : Bool) → (a ≡ true → c ≡ true) → (b ≡ true → c ≡ true) → (a || b) ≡ true → c ≡ true
 in_either true b c f g h = f refl
 in_either false b c f g h = g h
-
--- two tests in either order
-pub or-swap : (a b : Bool) → (a || b) ≡ (b || (a || false))
-or-swap true true = refl
-or-swap true false = refl
-or-swap false true = refl
-or-swap false false = refl

@@ -173,7 +173,8 @@ differ-drop_link n [] h = refl
 differ-drop_link n (None ∷ ss) h = differ-drop_link n ss h
 differ-drop_link n (Some v ∷ ss) h = by (same_value (Link n) v) (any-drop_link (same_value v) n ss) (differ-drop_link n ss)
   where
-    by : (b : Bool) → (list_any (same_value v) (closed_slots ss) ≡ false → list_any (same_value v) (closed_slots (drop_link n ss)) ≡ false) → (differ (closed_slots ss) ≡ true → differ (closed_slots (drop_link n ss)) ≡ true) → differ (closed_slots (cond b (None ∷ ss) (Some v ∷ drop_link n ss))) ≡ true
+    by : (b : Bool) → (list_any (same_value v) (closed_slots ss) ≡ false → list_any (same_value v) (closed_slots (drop_link n ss)) ≡ false)
+        → (differ (closed_slots ss) ≡ true → differ (closed_slots (drop_link n ss)) ≡ true) → differ (closed_slots (cond b (None ∷ ss) (Some v ∷ drop_link n ss))) ≡ true
     by true absent rest = grind arith
     by false absent rest = grind arith
 

@@ -57,8 +57,10 @@ module _ (t : Value → Bool) where
   values_effect (Replace (Field i) v) (Fields class fields) h a = values-put (λ (f : FieldValue). f.value) (λ f. f.field) (record { field = i; value = carried_value v }) fields h a
   values_effect (DeleteAdd (Field i) v) (Fields class fields) h a = values-put (λ (f : FieldValue). f.value) (λ f. f.field) (record { field = i; value = carried_value v }) fields h a
   values_effect (Delete (Field i)) (Fields class fields) h a = values-filter (λ (f : FieldValue). f.value) _ fields a
-  values_effect (Add (Named n key) v) (Items home items) h a = values-put (λ (i : MapItem). i.value) (λ i. i.number) (record { number = n; key = key; value = carried_value v }) (without_key n key items) h (values-filter (λ (i : MapItem). i.value) _ items a)
-  values_effect (DeleteAdd (Named n key) v) (Items home items) h a = values-put (λ (i : MapItem). i.value) (λ i. i.number) (record { number = n; key = key; value = carried_value v }) (without_key n key items) h (values-filter (λ (i : MapItem). i.value) _ items a)
+  values_effect (Add (Named n key) v) (Items home items) h a =
+      values-put (λ (i : MapItem). i.value) (λ i. i.number) (record { number = n; key = key; value = carried_value v }) (without_key n key items) h (values-filter (λ (i : MapItem). i.value) _ items a)
+  values_effect (DeleteAdd (Named n key) v) (Items home items) h a =
+      values-put (λ (i : MapItem). i.value) (λ i. i.number) (record { number = n; key = key; value = carried_value v }) (without_key n key items) h (values-filter (λ (i : MapItem). i.value) _ items a)
   values_effect (Replace (Item n) v) (Items home items) h a = values-put_value n (carried_value v) items h a
   values_effect (Delete (Item n)) (Items home items) h a = values-filter (λ (i : MapItem). i.value) _ items a
   values_effect Clear (Items home items) h a = refl

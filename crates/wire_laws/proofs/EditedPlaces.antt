@@ -6,6 +6,7 @@ use Rattle.std.proofs.lemmas.Bool.{and_parts, and_from}
 use Rattle.std.proofs.lemmas.Bool.Decides.{nat_tests}
 use Rattle.lists.specs.Rising.{find, put}
 use Rattle.lists.proofs.RisingLaws.{find_key}
+use Rattle.lists.proofs.Options.{mapped_some}
 use Rattle.schema_model.specs.Classes.{Schema}
 use Rattle.schema_model.specs.declared.value.Value.{Value}
 use Rattle.schema_model.specs.declared.value.Value.TheVariants.{Link, Whole, Str, Truth}
@@ -23,7 +24,6 @@ use Rattle.wire_model.specs.declared.op.OpKey.TheVariants.{Field, Item, Named}
 use Rattle.wire_model.specs.Edits.{Edit, Add, Replace, DeleteAdd, Delete, Clear, AddByRef, DeleteByRef, carried_value}
 use Rattle.wire_model.specs.Effect.{Body, Fields, Items, Slots, Elements, closed, closed_slots, effect, edited_row, put_named, put_value, without_key, push_link, has_link, put_slot, add_slot, is_present_at}
 use Rattle.wire_model.specs.Patch.{carried, field_value, map_item, item_value, item_key, set_value, row_edits, whole_edits, whole_start, ref_edits, slot_edits, either_number}
-use Rattle.state_laws.proofs.Numbers.{mapped_some}
 use Rattle.wire_laws.proofs.EditSteps.{PutsPass, edited_keeps, all-filter, all-append, closed_slots-push, all-drop_link, places_pass, ref_edits_pass, start_passes}
 use Rattle.wire_laws.proofs.Values.{carried_is}
 

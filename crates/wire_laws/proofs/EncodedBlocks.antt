@@ -3,6 +3,7 @@ use Rattle.std.proofs.Common.{◌≡◌, ℕ, zero, suc, Bool, true, false, cond
 use Rattle.std.specs.Option.{option_map_or}
 use Rattle.std.proofs.lemmas.Bool.Decides.{nat_tests}
 use Rattle.std.proofs.lemmas.Bool.{or_left, or_right}
+use Rattle.lists.proofs.Tests.{or_wider}
 use Rattle.schema_model.specs.Classes.{Schema}
 use Rattle.state_model.specs.declared.row.Row.{Row}
 use Rattle.state_model.specs.declared.row.Row.TheVariants.{Struct}
@@ -62,10 +63,6 @@ holder_known new known n r k live is =
 abbrev pub Follows : (ℕ → Bool) → List EditBlock → Type 0
 Follows there [] = Unit {0}
 Follows there (b ∷ bs) = (there b.holder ≡ true) × Follows (λ n. there n || is_among n (named_in b.edits)) bs
-
--- what holds of one of two holds where the first is wider
-pub or_wider : (a b c : Bool) → (a ≡ true → b ≡ true) → (a || c) ≡ true → (b || c) ≡ true
-or_wider a b c f h = grind (arith, nat_tests, f)
 
 -- the numbers may be more
 follows_wider : (bs : List EditBlock) (there more : ℕ → Bool) → ((n : ℕ) → there n ≡ true → more n ≡ true) → Follows there bs → Follows more bs

@@ -4,6 +4,7 @@ use Rattle.std.specs.List.{flat_map, slice_get, range_with_len, list_all}
 use Rattle.std.specs.Option.{option_map}
 use Rattle.lists.specs.Rising.{find}
 use Rattle.lists.proofs.RisingLaws.{find_key}
+use Rattle.lists.proofs.Passing.{list_all_filtered, all-found}
 use Rattle.schema_model.specs.Classes.{Schema}
 use Rattle.schema_model.specs.declared.value.Value.{Value}
 use Rattle.schema_model.specs.declared.value.Value.TheVariants.{Whole, Str, Truth, Link}
@@ -20,7 +21,6 @@ use Rattle.state_model.specs.declared.place.Expected.{Expected}
 use Rattle.state_model.specs.Places.{field_expects, item_expects, is_filtered}
 use Rattle.state_model.specs.Sound.{are_rows_of, rise, differ, keys_differ, fits_place, places_fit}
 use Rattle.std.proofs.lemmas.Bool.{and_parts}
-use Rattle.state_laws.proofs.Tests.{all-found, list_all_filtered}
 use Rattle.wire_model.specs.declared.op.OpKey.{OpKey}
 use Rattle.wire_model.specs.declared.op.OpKey.TheVariants.{Field, Item, Named}
 use Rattle.wire_model.specs.Edits.{Edit, Add, Replace, DeleteAdd, Clear, AddByRef, encoded}

@@ -3,6 +3,8 @@ use Rattle.std.proofs.Common.{◌≡◌, ℕ, Bool, true, false, cond, ◌||◌,
 use Rattle.std.specs.Option.{option_map, option_map_or}
 use Rattle.std.proofs.lemmas.Bool.{eqb-true}
 use Rattle.lists.specs.Rising.{find}
+use Rattle.lists.proofs.Tests.{or_swapped}
+use Rattle.lists.proofs.Options.{same_some}
 use Rattle.state_model.specs.declared.row.Row.{Row}
 use Rattle.state_model.specs.declared.row.RowEntry.{RowEntry}
 use Rattle.state_model.specs.Rows.{number_of, row_at, is_live, emptied, kinds_of, put_row}
@@ -13,7 +15,7 @@ use Rattle.wire_model.specs.Edits.{Carried, Plain, Linked, Edit, Add, Replace, D
 use Rattle.wire_model.specs.Effect.{carried_by}
 use Rattle.wire_model.specs.Grammar.{known_after}
 use Rattle.wire_model.specs.Patch.{kind_in, linked_number, named_in}
-use Rattle.wire_laws.proofs.Bools.{or-none, or_moved, or-swap}
+use Rattle.wire_laws.proofs.Bools.{or-none, or_moved}
 use Rattle.wire_laws.proofs.LinkedRows.{CarriesKind, CarriesKinds, row_at-put_row, is_live-put_row}
 use Rattle.wire_laws.proofs.KindLaws.{emptied_of_kind, kind_of}
 use Rattle.wire_laws.proofs.EncodedValues.{Knows}
@@ -74,10 +76,6 @@ abbrev pub known_with : List Edit → List RowEntry → List RowEntry
 known_with [] known = known
 known_with (e ∷ es) known = known_with es (known_after e known)
 
--- what is there is one where both are
-same_some : (x y : Row) → Some x ≡ Some y → x ≡ y
-same_some x y h = cc
-
 -- with a link of the kind in the new rows, the known rows are still what they are there
 knows_carried : (new : List RowEntry) (o : Option Carried) (known : List RowEntry) → CarriesKind new o → Knows new known → Knows new (with_known o known)
 knows_carried new None known c k = k
@@ -103,7 +101,7 @@ knows_behind new (e ∷ es) known c k = knows_behind new es (known_after e known
 carried_lives : (o : Option Carried) (known : List RowEntry) (n : ℕ) → is_live (with_known o known) n ≡ (is_live known n || is_among n (option_map_or linked_number o []))
 carried_lives None known n = or-none (is_live known n)
 carried_lives (Some (Plain s v)) known n = or-none (is_live known n)
-carried_lives (Some (Linked m empty)) known n = is_live-put_row m empty known n ∙ or-swap (m == n) (is_live known n)
+carried_lives (Some (Linked m empty)) known n = is_live-put_row m empty known n ∙ or_swapped (m == n) (is_live known n)
 
 -- which numbers are known behind operations: those that were, and those that the operations name
 pub lives_behind : (es : List Edit) (known : List RowEntry) (n : ℕ) → is_live (known_with es known) n ≡ (is_live known n || is_among n (named_in es))

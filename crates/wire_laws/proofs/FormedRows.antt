@@ -3,6 +3,7 @@ use Rattle.std.proofs.Common.{◌≡◌, ℕ, Bool, true, false, not, ◌||◌, 
 use Rattle.std.specs.Prelude.{is_some, option_and_then}
 use Rattle.std.specs.Option.{option_map}
 use Rattle.std.proofs.lemmas.Bool.{and_parts}
+use Rattle.lists.proofs.Passing.{list_all_wider}
 use Rattle.schema_model.specs.Classes.{Schema, home_field, item_of}
 use Rattle.schema_model.specs.declared.class.FieldDecl.{FieldDecl}
 use Rattle.schema_model.specs.declared.class.Item.{Item}
@@ -21,7 +22,6 @@ use Rattle.state_model.specs.Rows.{row_at}
 use Rattle.state_model.specs.declared.place.Expected.TheVariants.{Item as AnItem}
 use Rattle.state_model.specs.Places.{is_filtered, holds_instances, item_expects, instance_class}
 use Rattle.state_model.specs.Sound.{differ, places_fit, fits_place, fits_expected, are_rows_of}
-use Rattle.state_laws.proofs.Tests.{list_all_wider}
 use Rattle.state_laws.proofs.FittingRows.{rises_where}
 use Rattle.state_laws.proofs.RowsOf.{rows_fit}
 use Rattle.wire_laws.proofs.Forms.{IsFormed}

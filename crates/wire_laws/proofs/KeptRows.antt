@@ -4,6 +4,7 @@ use Rattle.std.specs.List.{list_all, list_any}
 use Rattle.std.specs.Option.{option_map_or}
 use Rattle.std.proofs.lemmas.Bool.Decides.{nat_tests}
 use Rattle.lists.specs.Rising.{RisesFrom}
+use Rattle.lists.proofs.Passing.{all_and_any, list_all_wider, list_any-flat_map, list_any-map, list_any-made, found-all}
 use Rattle.schema_model.specs.declared.value.Value.{Value}
 use Rattle.schema_model.specs.declared.place.Home.{Home}
 use Rattle.schema_model.specs.Classes.{Schema}
@@ -19,10 +20,8 @@ use Rattle.state_model.specs.Reached.{is_among}
 use Rattle.state_model.specs.declared.place.Expected.{Expected}
 use Rattle.state_model.specs.Places.{field_expects, item_expects, is_filtered, row_home}
 use Rattle.state_model.specs.Sound.{rise, differ, keys_differ, has_kind, has_root, places_fit, fits_place, are_rows_of}
-use Rattle.state_laws.proofs.Passing.{list_any-flat_map}
 use Rattle.state_laws.proofs.Numbers.{entry, at_live, live_at, found_row}
 use Rattle.std.proofs.lemmas.Bool.{and_parts, and_from}
-use Rattle.state_laws.proofs.Tests.{list_any-map, list_any-made, list_all_wider, all_and_any, found-all}
 use Rattle.state_laws.proofs.Fitting.{OneKind, same_class, same_declared, one_home, fits_elsewhere, fits_live}
 use Rattle.state_laws.proofs.FittingRows.{rise_where}
 use Rattle.state_laws.proofs.RowsOf.{rows_fit, rows_root}

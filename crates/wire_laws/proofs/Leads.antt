@@ -6,13 +6,13 @@ use Rattle.std.proofs.lemmas.Grind.{flat_map-append}
 use Rattle.std.proofs.lemmas.Bool.{or_left, or_right, false_from_ne_true}
 use Rattle.lists.specs.Rising.{RisesFrom, find}
 use Rattle.lists.proofs.RisingLaws.{RisesFrom-filter}
+use Rattle.lists.proofs.Passing.{length-filter_most}
 use Rattle.schema_model.specs.Classes.{Schema}
 use Rattle.state_model.specs.declared.row.Row.{Row}
 use Rattle.state_model.specs.declared.row.RowEntry.{RowEntry}
 use Rattle.state_model.specs.Rows.{number_of, numbers_of, row_at, is_live, held_in}
 use Rattle.state_model.specs.Reached.{is_among}
 use Rattle.state_laws.proofs.Numbers.{entry, live_row, row_chosen, live_chosen, at_live, row_found, among_both}
-use Rattle.state_laws.proofs.Passing.{length-filter_most}
 use Rattle.state_laws.proofs.Joins.{Joined}
 use Rattle.state_laws.proofs.FreedLaw.{freed_joined}
 use Rattle.wire_model.specs.Edits.{EditBlock}

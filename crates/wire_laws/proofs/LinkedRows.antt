@@ -6,6 +6,7 @@ use Rattle.std.proofs.lemmas.Bool.Decides.{nat_tests}
 use Rattle.std.proofs.lemmas.List.Folds.{list_any-append}
 use Rattle.lists.specs.Rising.{RisesFrom, find}
 use Rattle.lists.proofs.RisingLaws.{find-put, RisesFrom-put}
+use Rattle.lists.proofs.Tests.{or_swapped}
 use Rattle.schema_model.specs.Classes.{Schema}
 use Rattle.schema_model.specs.declared.value.Value.{Value}
 use Rattle.schema_model.specs.declared.value.Value.TheVariants.{Whole, Str, Truth, Link}
@@ -24,7 +25,7 @@ use Rattle.wire_model.specs.Edits.{Edit, Clear, Carried, Plain, Linked}
 use Rattle.wire_model.specs.Effect.{carried_by, with_linked, with_named}
 use Rattle.wire_model.specs.Patch.{kind_in, carried, changed_place, place_edit, field_value, map_item, item_value, item_key, set_value, slot_edits, same_values, kept_of, gone_of, drop_edit, push_edit, ref_edits, row_edits, whole_start, whole_edits, linked_number, named_in}
 use Rattle.state_laws.proofs.Numbers.{live_row}
-use Rattle.wire_laws.proofs.Bools.{or-none, or-swap}
+use Rattle.wire_laws.proofs.Bools.{or-none}
 
 -- ---- the kinds of what is carried
 
@@ -89,7 +90,8 @@ pushes_carry : (schema : Schema) (rows : List RowEntry) (home : Home) (vs : List
 pushes_carry schema rows home vs = CarriesKinds-map rows (push_edit schema rows home) vs (λ v. carried_kind rows (item_expects schema home) v)
 
 -- the operations on a filtered array
-refs_carry : (schema : Schema) (rows : List RowEntry) (home : Home) (old new : List Value) (b : Bool) → CarriesKinds rows (cond b (flat_map drop_edit (gone_of new old) ++ map (push_edit schema rows home) (gone_of old new)) (Clear ∷ map (push_edit schema rows home) new))
+refs_carry : (schema : Schema) (rows : List RowEntry) (home : Home) (old new : List Value) (b : Bool)
+    → CarriesKinds rows (cond b (flat_map drop_edit (gone_of new old) ++ map (push_edit schema rows home) (gone_of old new)) (Clear ∷ map (push_edit schema rows home) new))
 refs_carry schema rows home old new true =
     CarriesKinds-append rows (flat_map drop_edit (gone_of new old)) (map (push_edit schema rows home) (gone_of old new))
     (CarriesKinds-flat_map rows drop_edit (gone_of new old) (drop_carries rows)) (pushes_carry schema rows home (gone_of old new))
@@ -215,7 +217,7 @@ linked_lives : (c : Carried) (rows : List RowEntry) (n : ℕ) → is_live (with_
 linked_lives (Plain k s) rows n = or-none (is_live rows n)
 linked_lives (Linked j empty) rows n =
     let go : (b : Bool) → is_live rows j ≡ b → is_live (cond b rows (put_row j empty rows)) n ≡ (is_live rows n || is_among n (j ∷ [])) =
-    elim [ true ↦ λ e. old_lives rows j n e | false ↦ λ e. is_live-put_row j empty rows n ∙ or-swap (j == n) (is_live rows n) ] in
+    elim [ true ↦ λ e. old_lives rows j n e | false ↦ λ e. is_live-put_row j empty rows n ∙ or_swapped (j == n) (is_live rows n) ] in
     go (is_live rows j) refl
 
 -- the rows after what one operation names
@@ -235,7 +237,8 @@ two_steps false true b r k = refl
 two_steps false false b r k = refl
 
 -- a number that is there keeps its row, and one that is named has an empty row of its kind
-pub named_rows : (kinds : List RowEntry) (edits : List Edit) (rows : List RowEntry) (n : ℕ) → RisesFrom number_of 0 rows → CarriesKinds kinds edits → row_at (with_named edits rows) n ≡ cond (is_live rows n) (row_at rows n) (cond (is_among n (named_in edits)) (Some (kind_in kinds n)) None)
+pub named_rows : (kinds : List RowEntry) (edits : List Edit) (rows : List RowEntry) (n : ℕ) → RisesFrom number_of 0 rows → CarriesKinds kinds edits
+    → row_at (with_named edits rows) n ≡ cond (is_live rows n) (row_at rows n) (cond (is_among n (named_in edits)) (Some (kind_in kinds n)) None)
 named_rows kinds [] rows n r c = none_named kinds rows n
 named_rows kinds (e ∷ es) rows n r c =
     let o = carried_by e in

@@ -145,7 +145,8 @@ module _ (old new : List MapItem) (differ : keys_differ (map (λ (i : MapItem). 
 
   -- another number after an item of new is put under its key
   put_elsewhere : (left : List ℕ) (items : List MapItem) (u k : ℕ) (y : MapItem) → Between number old new left items → find number u new ≡ Some y → k ≢ u → (o : Option MapItem) → find number k items ≡ o
-      → (option_and_then (λ (i : MapItem). cond ((i.number == u) || not (bytes_eq i.key y.key)) (Some i) None) o ≡ o) ⊎ ((option_and_then (λ (i : MapItem). cond ((i.number == u) || not (bytes_eq i.key y.key)) (Some i) None) o ≡ None) × (find number k new ≡ None))
+      → (option_and_then (λ (i : MapItem). cond ((i.number == u) || not (bytes_eq i.key y.key)) (Some i) None) o ≡ o) ⊎
+      ((option_and_then (λ (i : MapItem). cond ((i.number == u) || not (bytes_eq i.key y.key)) (Some i) None) o ≡ None) × (find number k new ≡ None))
   put_elsewhere left items u k y b h d None f = inl refl
   put_elsewhere left items u k y b h d (Some z) f = go (bytes_eq z.key y.key) refl
     where

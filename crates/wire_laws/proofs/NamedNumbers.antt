@@ -40,7 +40,8 @@ fields_name schema rows class old new m h =
     found_held (λ (f : FieldValue). f.field) (λ (f : FieldValue). f.value) new some.0 m some.1
 
 -- they name what the new fields hold and the old ones don't
-fields_named : (schema : Schema) (rows : List RowEntry) (class : ℕ) (old new : List FieldValue) (m : ℕ) → RisesFrom (λ (f : FieldValue). f.field) 0 new → values_hold m (map (λ (f : FieldValue). f.value) new) ≡ true → values_hold m (map (λ (f : FieldValue). f.value) old) ≡ false → is_among m (named_in (field_edits schema rows class old new)) ≡ true
+fields_named : (schema : Schema) (rows : List RowEntry) (class : ℕ) (old new : List FieldValue) (m : ℕ) → RisesFrom (λ (f : FieldValue). f.field) 0 new
+    → values_hold m (map (λ (f : FieldValue). f.value) new) ≡ true → values_hold m (map (λ (f : FieldValue). f.value) old) ≡ false → is_among m (named_in (field_edits schema rows class old new)) ≡ true
 fields_named schema rows class old new m r h g =
     let found = held_found (λ (f : FieldValue). f.field) (λ (f : FieldValue). f.value) 0 new m r h in
     places_named (λ i. Field i) (λ i. Field i) rows (field_expects schema class) (field_value old) (field_value new) (either_number (map (λ (f : FieldValue). f.field) old) (map (λ (f : FieldValue). f.field) new)) found.0 m
@@ -52,14 +53,17 @@ fields_named schema rows class old new m r h g =
 -- the operations on a map name only what its new items hold
 items_name : (schema : Schema) (rows : List RowEntry) (home : Home) (old new : List MapItem) (m : ℕ) → is_among m (named_in (map_edits schema rows home old new)) ≡ true → values_hold m (map (λ (i : MapItem). i.value) new) ≡ true
 items_name schema rows home old new m h =
-    let some = places_name (λ n. Item n) (λ n. Named n (item_key (map_item new n))) rows (λ n. item_expects schema home) (λ n. item_value (map_item old n)) (λ n. item_value (map_item new n)) (either_number (map (λ (i : MapItem). i.number) old) (map (λ (i : MapItem). i.number) new)) m h in
+    let some = places_name (λ n. Item n) (λ n. Named n (item_key (map_item new n))) rows (λ n. item_expects schema home) (λ n. item_value (map_item old n)) (λ n. item_value (map_item new n))
+    (either_number (map (λ (i : MapItem). i.number) old) (map (λ (i : MapItem). i.number) new)) m h in
     found_held (λ (i : MapItem). i.number) (λ (i : MapItem). i.value) new some.0 m some.1
 
 -- they name what the new items hold and the old ones don't
-items_named : (schema : Schema) (rows : List RowEntry) (home : Home) (old new : List MapItem) (m : ℕ) → RisesFrom (λ (i : MapItem). i.number) 0 new → values_hold m (map (λ (i : MapItem). i.value) new) ≡ true → values_hold m (map (λ (i : MapItem). i.value) old) ≡ false → is_among m (named_in (map_edits schema rows home old new)) ≡ true
+items_named : (schema : Schema) (rows : List RowEntry) (home : Home) (old new : List MapItem) (m : ℕ) → RisesFrom (λ (i : MapItem). i.number) 0 new → values_hold m (map (λ (i : MapItem). i.value) new) ≡ true
+    → values_hold m (map (λ (i : MapItem). i.value) old) ≡ false → is_among m (named_in (map_edits schema rows home old new)) ≡ true
 items_named schema rows home old new m r h g =
     let found = held_found (λ (i : MapItem). i.number) (λ (i : MapItem). i.value) 0 new m r h in
-    places_named (λ n. Item n) (λ n. Named n (item_key (map_item new n))) rows (λ n. item_expects schema home) (λ n. item_value (map_item old n)) (λ n. item_value (map_item new n)) (either_number (map (λ (i : MapItem). i.number) old) (map (λ (i : MapItem). i.number) new)) found.0 m
+    places_named (λ n. Item n) (λ n. Named n (item_key (map_item new n))) rows (λ n. item_expects schema home) (λ n. item_value (map_item old n)) (λ n. item_value (map_item new n))
+    (either_number (map (λ (i : MapItem). i.number) old) (map (λ (i : MapItem). i.number) new)) found.0 m
     (among_new (map (λ (i : MapItem). i.number) old) (map (λ (i : MapItem). i.number) new) found.0 found.1) found.2
     (found_unheld (λ (i : MapItem). i.number) (λ (i : MapItem). i.value) old found.0 m g)
 
@@ -72,7 +76,8 @@ elements_name schema rows home old new m h =
     found_held (λ (i : SetItem). i.number) (λ (i : SetItem). i.value) new some.0 m some.1
 
 -- they name what the new items hold and the old ones don't
-elements_named : (schema : Schema) (rows : List RowEntry) (home : Home) (old new : List SetItem) (m : ℕ) → RisesFrom (λ (i : SetItem). i.number) 0 new → values_hold m (map (λ (i : SetItem). i.value) new) ≡ true → values_hold m (map (λ (i : SetItem). i.value) old) ≡ false → is_among m (named_in (set_edits schema rows home old new)) ≡ true
+elements_named : (schema : Schema) (rows : List RowEntry) (home : Home) (old new : List SetItem) (m : ℕ) → RisesFrom (λ (i : SetItem). i.number) 0 new
+    → values_hold m (map (λ (i : SetItem). i.value) new) ≡ true → values_hold m (map (λ (i : SetItem). i.value) old) ≡ false → is_among m (named_in (set_edits schema rows home old new)) ≡ true
 elements_named schema rows home old new m r h g =
     let found = held_found (λ (i : SetItem). i.number) (λ (i : SetItem). i.value) 0 new m r h in
     places_named (λ n. Item n) (λ n. Item n) rows (λ n. item_expects schema home) (set_value old) (set_value new) (either_number (map (λ (i : SetItem). i.number) old) (map (λ (i : SetItem). i.number) new)) found.0 m
@@ -117,7 +122,8 @@ moves_name schema rows home old new =
     flat_map-append _ (flat_map drop_edit old) (map (push_edit schema rows home) new) ∙ ap (λ ns. ns ++ named_in (map (push_edit schema rows home) new)) (drops_name old) ∙ pushes_name schema rows home new
 
 -- they name what the new items hold that weren't there, or what all new items hold
-refs_numbers : (schema : Schema) (rows : List RowEntry) (home : Home) (old new : List Value) (m : ℕ) (b : Bool) → is_among m (named_in (cond b (flat_map drop_edit (gone_of new old) ++ map (push_edit schema rows home) (gone_of old new)) (Clear ∷ map (push_edit schema rows home) new))) ≡ cond b (values_hold m (gone_of old new)) (values_hold m new)
+refs_numbers : (schema : Schema) (rows : List RowEntry) (home : Home) (old new : List Value) (m : ℕ) (b : Bool)
+    → is_among m (named_in (cond b (flat_map drop_edit (gone_of new old) ++ map (push_edit schema rows home) (gone_of old new)) (Clear ∷ map (push_edit schema rows home) new))) ≡ cond b (values_hold m (gone_of old new)) (values_hold m new)
 refs_numbers schema rows home old new m true = ap (is_among m) (moves_name schema rows home (gone_of new old) (gone_of old new))
 refs_numbers schema rows home old new m false = ap (is_among m) (pushes_name schema rows home new)
 
@@ -139,12 +145,14 @@ refs_named schema rows home old new m h g =
 -- ---- an array
 
 -- the operations on an array, filtered or not, name only what its new values hold
-slots_or_refs_name : (schema : Schema) (rows : List RowEntry) (home : Home) (old new : List Value) (m : ℕ) (b : Bool) → is_among m (named_in (cond b (ref_edits schema rows home old new) (slot_edits schema rows home old new))) ≡ true → values_hold m new ≡ true
+slots_or_refs_name : (schema : Schema) (rows : List RowEntry) (home : Home) (old new : List Value) (m : ℕ) (b : Bool)
+    → is_among m (named_in (cond b (ref_edits schema rows home old new) (slot_edits schema rows home old new))) ≡ true → values_hold m new ≡ true
 slots_or_refs_name schema rows home old new m true h = refs_name schema rows home old new m h
 slots_or_refs_name schema rows home old new m false h = slots_name schema rows home old new m h
 
 -- they name what the new values hold and the old ones don't
-slots_or_refs_named : (schema : Schema) (rows : List RowEntry) (home : Home) (old new : List Value) (m : ℕ) (b : Bool) → values_hold m new ≡ true → values_hold m old ≡ false → is_among m (named_in (cond b (ref_edits schema rows home old new) (slot_edits schema rows home old new))) ≡ true
+slots_or_refs_named : (schema : Schema) (rows : List RowEntry) (home : Home) (old new : List Value) (m : ℕ) (b : Bool) → values_hold m new ≡ true → values_hold m old ≡ false
+    → is_among m (named_in (cond b (ref_edits schema rows home old new) (slot_edits schema rows home old new))) ≡ true
 slots_or_refs_named schema rows home old new m true h g = refs_named schema rows home old new m h g
 slots_or_refs_named schema rows home old new m false h g = slots_named schema rows home old new m h g
 

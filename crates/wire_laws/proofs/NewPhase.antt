@@ -20,7 +20,7 @@ use Rattle.wire_laws.proofs.RowLaw.{whole_law}
 use Rattle.wire_laws.proofs.Looks.{Looks, looked, one_more, block_looks, some_of}
 use Rattle.wire_laws.proofs.CommonPhase.{Ready, fold-append_blocks, looks_same, already}
 use Rattle.std.proofs.lemmas.Option.{same_Some}
-use Rattle.state_laws.proofs.Tests.{both_ways}
+use Rattle.lists.proofs.Tests.{both_ways}
 use Rattle.wire_laws.proofs.Bools.{or_moved, in_either}
 use Rattle.wire_laws.proofs.EditSteps.{closed_opened}
 

@@ -19,6 +19,7 @@ pub block_rises : (b : EditBlock) (rows : List RowEntry) → RisesFrom number_of
 block_rises b rows r = edits_rise b (with_named b.edits rows) (row_at (with_named b.edits rows) b.holder) (named_rises b.edits rows r)
 
 -- after a block its holder has the row that its operations made, and every other number what naming left
-pub block_rows : (kinds : List RowEntry) (b : EditBlock) (rows : List RowEntry) (r : Row) (n : ℕ) → RisesFrom number_of 0 rows → CarriesKinds kinds b.edits → row_at (with_named b.edits rows) b.holder ≡ Some r → row_at (apply_block rows b) n ≡ cond (b.holder == n) (Some (edited_row b.edits r)) (row_at (with_named b.edits rows) n)
+pub block_rows : (kinds : List RowEntry) (b : EditBlock) (rows : List RowEntry) (r : Row) (n : ℕ) → RisesFrom number_of 0 rows → CarriesKinds kinds b.edits
+    → row_at (with_named b.edits rows) b.holder ≡ Some r → row_at (apply_block rows b) n ≡ cond (b.holder == n) (Some (edited_row b.edits r)) (row_at (with_named b.edits rows) n)
 block_rows kinds b rows r n s c h =
     ap (λ o. row_at (with_edits b (with_named b.edits rows) o) n) h ∙ row_at-put_row b.holder (edited_row b.edits r) (with_named b.edits rows) n

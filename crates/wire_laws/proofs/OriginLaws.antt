@@ -1,8 +1,7 @@
 -- What holds of rows whose places are each as in one row or as in another: what they hold, their keys, and what operations leave of them.
-use Rattle.std.proofs.Common.{◌≡◌, ℕ, Bool, true, false, ◌||◌, ◌&&◌, ◌==◌, List, map, Option, Some, None, refl, sym, ap, ◌∙◌, subst, bytes_eq, arith}
+use Rattle.std.proofs.Common.{◌≡◌, ℕ, Bool, true, false, ◌||◌, ◌&&◌, ◌==◌, List, map, Option, Some, None, refl, sym, ap, ◌∙◌, subst, bytes_eq}
 use Rattle.std.specs.List.{list_all, list_any, flat_map}
 use Rattle.std.proofs.lemmas.Bool.{eqb-true, or_left, or_right}
-use Rattle.std.proofs.lemmas.Bool.Decides.{nat_tests}
 use Rattle.lists.proofs.RisingLaws.{find_key}
 use Rattle.schema_model.specs.Classes.{Schema}
 use Rattle.schema_model.specs.declared.value.Value.{Value}
@@ -17,10 +16,10 @@ use Rattle.state_model.specs.Values.{same_value, held_by}
 use Rattle.state_model.specs.Rows.{held_in, emptied}
 use Rattle.state_model.specs.Places.{same_kind}
 use Rattle.state_model.specs.Reached.{is_among}
-use Rattle.state_laws.proofs.Passing.{list_any_narrower, list_any-flat_map, found_passing}
 use Rattle.std.proofs.lemmas.Bool.{and_parts, and_from}
 use Rattle.lists.proofs.SameBytes.{same_bytes, bytes_eq_self}
-use Rattle.state_laws.proofs.Tests.{list_any-map, StandsIn, list_all_wider, all_and_any, all-found}
+use Rattle.lists.proofs.Numbers.{same_number}
+use Rattle.lists.proofs.Passing.{found_passing, all_and_any, list_all_wider, list_any_narrower, list_any-flat_map, list_any-map, StandsIn, all-found}
 use Rattle.wire_model.specs.Effect.{edited_row}
 use Rattle.wire_model.specs.Patch.{row_edits, whole_edits, map_item}
 use Rattle.wire_laws.proofs.Forms.{IsFormed}
@@ -45,10 +44,6 @@ some_wider p q n (Some r) h = n r h
 all_own : {X : Type 0} (q : X → Bool) (xs : List X) → ((x : X) → StandsIn x xs → q x ≡ true) → list_all q xs ≡ true
 all_own q xs n = list_all_wider (λ x. true) q xs (λ x s t. n x s) (all_each (λ x. true) (λ x. refl) xs)
 
--- a number is itself
-number_self : (n : ℕ) → (n == n) ≡ true
-number_self n = grind (arith, nat_tests)
-
 -- ---- a row's own places
 
 -- places pass where all fields, values and keys that the row has do
@@ -56,12 +51,12 @@ own_places : (p : ℕ → Value → Bool) (q : Value → Bool) (k : ℕ → List
     → ((v : Value) → has_value v r ≡ true → q v ≡ true) → ((n : ℕ) (key : List ℕ) → has_key n key r ≡ true → k n key ≡ true) → all_places p q k r ≡ true
 own_places p q k (Struct class fields) f g h =
     all_own (λ (x : FieldValue). p x.field x.value) fields
-    (λ x s. f x.field x.value (s (λ (y : FieldValue). (y.field == x.field) && same_value y.value x.value) (and_from _ _ (number_self x.field) (same_self x.value))))
+    (λ x s. f x.field x.value (s (λ (y : FieldValue). (y.field == x.field) && same_value y.value x.value) (and_from _ _ (same_number x.field) (same_self x.value))))
 own_places p q k (Map home items) f g h =
     all_own (λ (x : MapItem). q x.value && k x.number x.key) items
     (λ x s. and_from (q x.value) (k x.number x.key)
     (g x.value (list_any-map (λ u. same_value u x.value) (λ (y : MapItem). y.value) items ∙ s (λ (y : MapItem). same_value y.value x.value) (same_self x.value)))
-    (h x.number x.key (s (λ (y : MapItem). (y.number == x.number) && bytes_eq y.key x.key) (and_from _ _ (number_self x.number) (bytes_eq_self x.key)))))
+    (h x.number x.key (s (λ (y : MapItem). (y.number == x.number) && bytes_eq y.key x.key) (and_from _ _ (same_number x.number) (bytes_eq_self x.key)))))
 own_places p q k (Array home values) f g h = all_own q values (λ v s. g v (s (λ u. same_value u v) (same_self v)))
 own_places p q k (Set home items) f g h =
     all_own (λ (x : SetItem). q x.value) items

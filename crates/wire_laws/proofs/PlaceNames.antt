@@ -58,12 +58,14 @@ put_numbers : (key new_key : OpKey) (rows : List RowEntry) (expected : Option Ex
 put_numbers key new_key rows expected v = changed_numbers key new_key v (carried rows expected v) ∙ append-nil (linked_number (carried rows expected v)) ∙ carried_numbers rows expected v
 
 -- what the operation on a place names: what the new value holds, unless it is the old value
-pub place_numbers : (key new_key : OpKey) (rows : List RowEntry) (expected : Option Expected) (old new : Option Value) → (named_in (place_edit key new_key rows expected old new) ≡ held_at new) ⊎ ((named_in (place_edit key new_key rows expected old new) ≡ []) × (held_at new ≡ held_at old))
+pub place_numbers : (key new_key : OpKey) (rows : List RowEntry) (expected : Option Expected) (old new : Option Value)
+    → (named_in (place_edit key new_key rows expected old new) ≡ held_at new) ⊎ ((named_in (place_edit key new_key rows expected old new) ≡ []) × (held_at new ≡ held_at old))
 place_numbers key new_key rows expected None None = inl refl
 place_numbers key new_key rows expected None (Some v) = inl (added_numbers key rows expected v)
 place_numbers key new_key rows expected (Some u) None = inl refl
 place_numbers key new_key rows expected (Some u) (Some v) =
-    let go : (b : Bool) → same_value u v ≡ b → (named_in (cond b [] (changed_place key new_key v (carried rows expected v) ∷ [])) ≡ held_by v) ⊎ ((named_in (cond b [] (changed_place key new_key v (carried rows expected v) ∷ [])) ≡ []) × (held_by v ≡ held_by u)) =
+    let go : (b : Bool) → same_value u v ≡ b → (named_in (cond b [] (changed_place key new_key v (carried rows expected v) ∷ [])) ≡ held_by v) ⊎
+    ((named_in (cond b [] (changed_place key new_key v (carried rows expected v) ∷ [])) ≡ []) × (held_by v ≡ held_by u)) =
     elim [ true ↦ λ e. inr (refl, sym (same_held u v e)) | false ↦ λ e. inl (put_numbers key new_key rows expected v) ] in
     go (same_value u v) refl
 
@@ -73,7 +75,8 @@ place_names key new_key rows expected old new m h =
     elim (place_numbers key new_key rows expected old new) [ inl e ↦ rw e at h | inr e ↦ absurd (true≢false (sym (rw e.0 at h))) ]
 
 -- the operation on a place names what the new value holds and the old one doesn't
-pub place_named : (key new_key : OpKey) (rows : List RowEntry) (expected : Option Expected) (old new : Option Value) (m : ℕ) → is_among m (held_at new) ≡ true → is_among m (held_at old) ≡ false → is_among m (named_in (place_edit key new_key rows expected old new)) ≡ true
+pub place_named : (key new_key : OpKey) (rows : List RowEntry) (expected : Option Expected) (old new : Option Value) (m : ℕ) → is_among m (held_at new) ≡ true → is_among m (held_at old) ≡ false
+    → is_among m (named_in (place_edit key new_key rows expected old new)) ≡ true
 place_named key new_key rows expected old new m h g =
     elim (place_numbers key new_key rows expected old new) [ inl e ↦ rw e h | inr e ↦ absurd (true≢false (sym h ∙ ap (is_among m) e.1 ∙ g)) ]
 
@@ -89,14 +92,16 @@ named_by_places m f [] = refl
 named_by_places m f (n ∷ ns) = ap (is_among m) (flat_map-append _ (f n) (flat_map f ns)) ∙ list_any-append _ (named_in (f n)) (named_in (flat_map f ns)) ∙ ap (λ b. is_among m (named_in (f n)) || b) (named_by_places m f ns)
 
 -- a number that they name is held by the new value of some place
-pub places_name : (key new_key : ℕ → OpKey) (rows : List RowEntry) (expected : ℕ → Option Expected) (old new : ℕ → Option Value) (ns : List ℕ) (m : ℕ) → is_among m (named_in (places_edits key new_key rows expected old new ns)) ≡ true → (n : ℕ) × (is_among m (held_at (new n)) ≡ true)
+pub places_name : (key new_key : ℕ → OpKey) (rows : List RowEntry) (expected : ℕ → Option Expected) (old new : ℕ → Option Value) (ns : List ℕ) (m : ℕ)
+    → is_among m (named_in (places_edits key new_key rows expected old new ns)) ≡ true → (n : ℕ) × (is_among m (held_at (new n)) ≡ true)
 places_name key new_key rows expected old new ns m h =
     let f : ℕ → List Edit = λ n. place_edit (key n) (new_key n) rows (expected n) (old n) (new n) in
     let some = some_number (λ n. is_among m (named_in (f n))) ns (sym (named_by_places m f ns) ∙ h) in
     (some.0, place_names (key some.0) (new_key some.0) rows (expected some.0) (old some.0) (new some.0) m some.1)
 
 -- they name what the new value of one of the places holds and its old one doesn't
-pub places_named : (key new_key : ℕ → OpKey) (rows : List RowEntry) (expected : ℕ → Option Expected) (old new : ℕ → Option Value) (ns : List ℕ) (n m : ℕ) → is_among n ns ≡ true → is_among m (held_at (new n)) ≡ true → is_among m (held_at (old n)) ≡ false → is_among m (named_in (places_edits key new_key rows expected old new ns)) ≡ true
+pub places_named : (key new_key : ℕ → OpKey) (rows : List RowEntry) (expected : ℕ → Option Expected) (old new : ℕ → Option Value) (ns : List ℕ) (n m : ℕ) → is_among n ns ≡ true
+    → is_among m (held_at (new n)) ≡ true → is_among m (held_at (old n)) ≡ false → is_among m (named_in (places_edits key new_key rows expected old new ns)) ≡ true
 places_named key new_key rows expected old new ns n m h t g =
     let f : ℕ → List Edit = λ k. place_edit (key k) (new_key k) rows (expected k) (old k) (new k) in
     named_by_places m f ns ∙ among_passes (λ k. is_among m (named_in (f k))) ns n h (place_named (key n) (new_key n) rows (expected n) (old n) (new n) m t g)

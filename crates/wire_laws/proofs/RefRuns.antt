@@ -4,6 +4,7 @@ use Rattle.std.specs.List.{fold, flat_map, list_any, list_all}
 use Rattle.std.proofs.lemmas.List.{append-nil}
 use Rattle.std.proofs.lemmas.List.Sums.{fold-append}
 use Rattle.std.proofs.lemmas.Bool.Decides.{nat_tests}
+use Rattle.lists.proofs.Passing.{list_all_filtered}
 use Rattle.schema_model.specs.Classes.{Schema}
 use Rattle.schema_model.specs.declared.value.Value.{Value}
 use Rattle.schema_model.specs.declared.value.Value.TheVariants.{Whole, Str, Truth, Link}
@@ -17,7 +18,6 @@ use Rattle.wire_model.specs.Effect.{Slots, effect, closed, closed_slots, has_lin
 use Rattle.wire_model.specs.Patch.{stands_in, kept_of, gone_of, same_values, drop_edit, push_edit, ref_edits}
 use Rattle.state_laws.proofs.SameValues.{same_is, same_value_sym}
 use Rattle.state_laws.proofs.FittingRows.{differ_filtered}
-use Rattle.state_laws.proofs.Tests.{list_all_filtered}
 use Rattle.wire_laws.proofs.Values.{same_values_is}
 use Rattle.wire_laws.proofs.SlotRuns.{closed_slots-append, closed_slots-map}
 use Rattle.wire_laws.proofs.LinkLists.{filter-filter, filter_keeps, filter_all, differ_apart, without_gone}

@@ -5,6 +5,7 @@ use Rattle.std.proofs.lemmas.List.{append-nil, length-append}
 use Rattle.std.proofs.lemmas.List.Sums.{fold-append}
 use Rattle.std.proofs.Math.Seq.{set-append_seam}
 use Rattle.std.proofs.lemmas.Bool.Decides.{nat_tests}
+use Rattle.lists.proofs.ListFacts.{drop_rest, drop_first, drop_still, drop_none}
 use Rattle.schema_model.specs.Classes.{Schema}
 use Rattle.schema_model.specs.declared.value.Value.{Value}
 use Rattle.schema_model.specs.declared.place.Home.{Home}
@@ -34,32 +35,6 @@ closed_slots-map [] = refl
 closed_slots-map (v ∷ vs) = ap (λ ws. v ∷ ws) (closed_slots-map vs)
 
 -- ---- what stands at a position
-
--- the first item from a position on stands at that position
-drop_first : {A : Type 0} (xs : List A) (p : ℕ) (y : A) (ys : List A) → drop p xs ≡ y ∷ ys → slice_get xs p ≡ Some y
-drop_first [] zero y ys h = cc
-drop_first [] (suc p) y ys h = cc
-drop_first (x ∷ xs) zero y ys h = cc
-drop_first (x ∷ xs) (suc p) y ys h = drop_first xs p y ys h
-
--- behind it stands what is left from the next position on
-drop_rest : {A : Type 0} (xs : List A) (p : ℕ) (y : A) (ys : List A) → drop p xs ≡ y ∷ ys → drop (suc p) xs ≡ ys
-drop_rest [] zero y ys h = cc
-drop_rest [] (suc p) y ys h = cc
-drop_rest (x ∷ xs) zero y ys h = cc
-drop_rest (x ∷ xs) (suc p) y ys h = drop_rest xs p y ys h
-
--- where nothing is left, nothing stands at the position
-drop_none : {A : Type 0} (xs : List A) (p : ℕ) → drop p xs ≡ [] → slice_get xs p ≡ None
-drop_none [] p h = refl
-drop_none (x ∷ xs) zero h = cc
-drop_none (x ∷ xs) (suc p) h = drop_none xs p h
-
--- and nothing is left from the next position on
-drop_still : {A : Type 0} (xs : List A) (p : ℕ) → drop p xs ≡ [] → drop (suc p) xs ≡ []
-drop_still [] p h = refl
-drop_still (x ∷ xs) zero h = cc
-drop_still (x ∷ xs) (suc p) h = drop_still xs p h
 
 -- ---- one operation at the position behind what is done
 

@@ -1,5 +1,5 @@
 -- A state frame leads a client from its old view to its new one.
-use Rattle.std.proofs.Common.{◌≡◌, ℕ, Bool, true, false, not, cond, ◌||◌, List, [], ◌∷◌, length, filter, ◌==◌, eq-eqb, Option, Some, None, refl, sym, ap, subst, ◌∙◌}
+use Rattle.std.proofs.Common.{◌≡◌, ℕ, Bool, true, false, not, cond, ◌||◌, List, [], ◌∷◌, length, filter, ◌==◌, Option, Some, None, refl, sym, ap, subst, ◌∙◌}
 use Rattle.std.specs.Prelude.{nat_lt}
 use Rattle.std.specs.Option.{option_map}
 use Rattle.std.proofs.lemmas.Bool.{and_parts, eqb-true, false_from_ne_true}
@@ -36,6 +36,7 @@ use Rattle.wire_laws.proofs.KeptRows.{kept_rows_of}
 use Rattle.wire_laws.proofs.Keeping.{IsGoal, blocks_kept, patch_leads_all, kept_at_first}
 use Rattle.wire_laws.proofs.Leads.{patch_leads}
 use Rattle.std.proofs.lemmas.Option.{same_Some}
+use Rattle.lists.proofs.Numbers.{same_number}
 use Rattle.wire_laws.proofs.LinkedRows.{missing_row}
 
 -- ---- two views
@@ -283,9 +284,6 @@ root_row schema new sound =
     by_row (Map home items) is root kind = cc
     by_row (Array home values) is root kind = cc
     by_row (Set home items) is root kind = cc
-
-same_number : (n : ℕ) → (n == n) ≡ true
-same_number n = eq-eqb n n refl
 
 -- the root alone is sound
 root_sound : (schema : Schema) → nat_lt schema.root (length schema.classes) ≡ true → Sound schema (root_alone schema)

@@ -1,2 +1,2 @@
-pub mod PatchLaw
 pub mod FrameLaw
+pub mod PatchLaw

@@ -1,8 +1,8 @@
-pub mod Edits
-pub mod OpBytes
-pub mod Grammar
-pub mod Effect
 pub mod Decoded
-pub mod Patch
+pub mod Edits
+pub mod Effect
 pub mod Frame
+pub mod Grammar
+pub mod OpBytes
+pub mod Patch
 pub mod Resolved

@@ -60,7 +60,8 @@ find-put_named n key v items k r =
     find-put number_of x (without_key n key items) k ∙ ap (λ o. cond (n == k) (Some x) o) (find-filter number_of 0 (stays n key) items k r)
 
 -- the one that is taken out is the other one that doesn't stay
-same_found : (n k : ℕ) (key : List ℕ) (x : MapItem) (held : Option MapItem) (owner : Option ℕ) → is_found n owner ≡ false → ((n == k) ≡ false → is_found k owner ≡ is_text key (option_and_then key_in held)) → ((i : MapItem) → held ≡ Some i → i.number ≡ k) →
+same_found : (n k : ℕ) (key : List ℕ) (x : MapItem) (held : Option MapItem) (owner : Option ℕ) → is_found n owner ≡ false → ((n == k) ≡ false → is_found k owner ≡ is_text key (option_and_then key_in held))
+    → ((i : MapItem) → held ≡ Some i → i.number ≡ k) →
     cond (is_found k owner) None (cond (n == k) (Some x) held) ≡ cond (n == k) (Some x) (if_stays n key held)
 same_found n k key x held owner other owns numbered = by_test (n == k) refl held owns numbered
   where
@@ -134,7 +135,8 @@ module _ (n : ℕ) (key : List ℕ) (v : Value) (items : List MapItem) (index : 
       is_second = by_old old held gone
         where
           by_old : (o : Option MapItem) → find number_of n items ≡ o → IsWithoutItem first second o → IsIndexOf without_both second
-          by_old None at same = subst (λ i. IsIndexOf without_both i) (sym same) (index-same without_owner without_both first (λ k. none_at without_owner n k (ap (λ o. cond (is_found n owner) None (option_and_then key_in o)) at ∙ ap (λ b. cond {A = Option (List ℕ)} b None None) other)) is_first)
+          by_old None at same = subst (λ i. IsIndexOf without_both i) (sym same)
+              (index-same without_owner without_both first (λ k. none_at without_owner n k (ap (λ o. cond (is_found n owner) None (option_and_then key_in o)) at ∙ ap (λ b. cond {A = Option (List ℕ)} b None None) other)) is_first)
           by_old (Some i) at without =
               let number : i.number ≡ n = find_key number_of n items i at in
               let there : without_owner i.number ≡ Some i.key = ap without_owner number ∙ (ap (λ b. cond b None (key_texts items n)) other ∙ ap (option_and_then key_in) at) in

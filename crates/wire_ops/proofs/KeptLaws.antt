@@ -23,7 +23,8 @@ module _ (at : ℕ) (s : Slot) (first : ℕ) (old : List Slot) (start : ℕ) (ne
   links_no_more pairs pairs' v n none was no_more who place = grind (arith, nat_tests, none, puts (is_link who) place, n who place, n who at, was who, no_more who place)
 
   -- a hole's place is noted
-  holes_put : (holes holes' : List ℕ) → ((place : ℕ) → stands_at is_hole first old place ≡ true → is_among holes place ≡ true) → ((place : ℕ) → is_among holes place ≡ true → is_among holes' place ≡ true) → (is_hole s ≡ true → is_among holes' at ≡ true) →
+  holes_put : (holes holes' : List ℕ) → ((place : ℕ) → stands_at is_hole first old place ≡ true → is_among holes place ≡ true) → ((place : ℕ) → is_among holes place ≡ true → is_among holes' place ≡ true)
+      → (is_hole s ≡ true → is_among holes' at ≡ true) →
       (place : ℕ) → stands_at is_hole start new place ≡ true → is_among holes' place ≡ true
   holes_put holes holes' known more here place h = grind (arith, nat_tests, puts is_hole place, known place, more place, here, h)
 

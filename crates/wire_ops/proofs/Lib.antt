@@ -5,5 +5,5 @@ mod KeptLaws
 mod PlaceLaws
 mod RestLaws
 mod SlotLaws
-pub mod EffectLaws
 mod WrittenAgain
+pub mod EffectLaws

@@ -168,7 +168,8 @@ module _ (who : ℕ) where
   position_first first [] place h = grind (arith, h.0)
   position_first first (Held v ∷ ss) place h =
       let go : (b : Bool) → has_link who (Some v) ≡ b → position_or_len (has_link who) (Some v ∷ shown ss) + count_below (closed_places (suc first) ss) place + first ≡ place = elim [
-        | true ↦ λ e. rw e (let least : place ≤ first = h.1 first (stands_here (is_link who) first (Held v) ss ∙ e) in omega (arith, least, (stands_within (is_link who) place first (Held v ∷ ss) h.0).0, count_none place (suc first) ss (omega (arith, least))))
+        | true ↦ λ e. rw e (let least : place ≤ first = h.1 first (stands_here (is_link who) first (Held v) ss ∙ e) in
+            omega (arith, least, (stands_within (is_link who) place first (Held v ∷ ss) h.0).0, count_none place (suc first) ss (omega (arith, least))))
         | false ↦ λ e. let later = first_later (is_link who) first (Held v) ss place h e in rw e (omega (arith, later.0, position_first (suc first) ss place later.1))
       ] in
       go (has_link who (Some v)) refl

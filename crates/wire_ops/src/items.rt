@@ -7,7 +7,7 @@ ghost use Rattle.trees.specs.Texts.{text_hash, has_text, leads, IsIndexOf};
 ghost use Rattle.wire_model.specs.Effect.{without_key, put_named, put_value};
 ghost use Rattle.wire_ops.specs.Index.{key_texts, without_item, IsWithoutAny, IsWithoutItem, IsIndexWithout};
 
-use lists::{Memory, Text};
+use lists::{Copied, Memory, Text};
 use schema_model::Value;
 use state_model::{MapItem, MapItems};
 use std::alloc::Global;

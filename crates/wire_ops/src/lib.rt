@@ -1,4 +1,4 @@
-//! Operations as bytes, both ways, and what they do to a row.
+//! Operations written as bytes, and what they do to a row. `op_reader` reads them.
 #![tactic(auto)]
 
 mod carried;

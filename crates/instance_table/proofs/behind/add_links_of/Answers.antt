@@ -15,7 +15,7 @@ returns-in-Some-clause-cost g c =
 pub returns-in-None-clause-links : goal.returns-in-None-clause-links
 returns-in-None-clause-links g c =
     let found = held_behind c.args.schema.now c.args.tag c.args.nodes.now c.args.who _ c.in-None.ensures in
-    rw found (sym (append-nil c.args.links.now.items))
+    rw found (sym (append-nil (g.R.WalkRoom.waiting_in c.args.room.now)))
 
 pub returns-in-None-clause-cost : goal.returns-in-None-clause-cost
 returns-in-None-clause-cost g c = omega (arith, places_found c.args.nodes.now c.args.who _ c.in-None.ensures)
@@ -27,3 +27,8 @@ returns-in-Some-clause-most g c =
 
 pub returns-in-None-clause-most : goal.returns-in-None-clause-most
 returns-in-None-clause-most g c = omega (arith, places_found c.args.nodes.now c.args.who _ c.in-None.ensures)
+
+pub returns-in-Some-clause-lacks : goal.returns-in-Some-clause-lacks
+returns-in-Some-clause-lacks g c =
+    let found = held_behind c.args.schema.now c.args.tag c.args.nodes.now c.args.who _ c.in-Some.ensures in
+    rw found c.add_links_through.ensures.lacks

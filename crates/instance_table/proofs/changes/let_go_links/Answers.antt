@@ -35,7 +35,8 @@ loop-n-preserved c =
     elim c.match-link.branch [
       | in-Some w ↦
           rw w.graph-is (record {
-            nodes = let_go_next h n start c.loop-n.graph.nodes w.let_go_all.new.self.nodes values (Some w.in-Some.link) (omega (arith, c.loop-n-test.true, c.places_at-count.ensures)) nodes (cc (w.in-Some.is, is)) (ap (λ (g : GraphState). g.nodes) w.let_go_all.ensures);
+            nodes = let_go_next h n start c.loop-n.graph.nodes w.let_go_all.new.self.nodes values (Some w.in-Some.link) (omega (arith, c.loop-n-test.true, c.places_at-count.ensures))
+                nodes (cc (w.in-Some.is, is)) (ap (λ (g : GraphState). g.nodes) w.let_go_all.ensures);
             behind = behind;
           })
       | in_default w ↦

@@ -1,5 +1,6 @@
+use Rattle.lists.proofs.Results.{on_ok_both}
 use Rattle.instance_table.specs.Bodies.{next_in}
-use Rattle.instance_table.proofs.EditedBodies.{edited_is, next_given, on_ok_both}
+use Rattle.instance_table.proofs.EditedBodies.{edited_is, next_given}
 use Rattle.instance_table.proofs.edits.edit.Goals as goal
 
 pub returns-clause-after : goal.returns-clause-after

@@ -22,7 +22,8 @@ returns-then-ne c =
     let held : c.holds-then-ne.result ≡ holds_it c.args.nodes.now c.args.holder put.who = rw (put.is ∙ ap (command.SetAt put.field-0 put.at) link) at c.holds-then-ne.ensures in
     held
     ∙ (ap (λ b. b && holds_it c.args.nodes.now c.args.holder put.who) apart
-    ∙ set_link c.args.schema.now c.args.nodes.now c.args.holder put.who put.field-0 put.at c.in-Array.home c.in-Array.values c.args.command.now put.field-2 c.args.body.now c.link_of.result _ own put.is link c.in-Array.is c.link_of.ensures.link c.get.ensures)
+    ∙ set_link c.args.schema.now c.args.nodes.now c.args.holder put.who put.field-0 put.at c.in-Array.home c.in-Array.values c.args.command.now put.field-2 c.args.body.now c.link_of.result
+    _ own put.is link c.in-Array.is c.link_of.ensures.link c.get.ensures)
 
 pub returns-else-ne : goal.returns-else-ne
 returns-else-ne c =
@@ -32,7 +33,8 @@ returns-else-ne c =
     let same : false ≡ not (option_eq (λ a b. a == b) c.link_of.result (Some put.who)) = rw (put.is ∙ ap (command.SetAt put.field-0 put.at) link) at c.if-ne.ensures in
     c.if-ne.false
     ∙ (ap (λ b. b && holds_it c.args.nodes.now c.args.holder put.who) same
-    ∙ set_link c.args.schema.now c.args.nodes.now c.args.holder put.who put.field-0 put.at c.in-Array.home c.in-Array.values c.args.command.now put.field-2 c.args.body.now c.link_of.result _ own put.is link c.in-Array.is c.link_of.ensures.link c.get.ensures)
+    ∙ set_link c.args.schema.now c.args.nodes.now c.args.holder put.who put.field-0 put.at c.in-Array.home c.in-Array.values c.args.command.now put.field-2 c.args.body.now c.link_of.result
+    _ own put.is link c.in-Array.is c.link_of.ensures.link c.get.ensures)
 
 pub returns-in_default-command : goal.returns-in_default-command
 returns-in_default-command c =

@@ -25,7 +25,7 @@ returns-in_default-clause-value c =
       | in_default-via-in_default w ↦ ap (option_and_then (row_at (rows_in es))) (sym c.holder_of.ensures ∙ w.in_default.is-0)
     ] in
     let field = sym (c.if-is_no_field.ensures ∙ ap (is_no_field c.args.schema.now command) told) in
-    let table = subst (λ (l : List (ℕ × Node)). IsTable c.args.schema.now l c.args.given c.args.totals.places c.args.totals.text) (sym c.nodes-nodes.ensures) c.requires in
+    let table = subst (λ (l : List (ℕ × Node)). IsTable c.args.schema.now l c.args.given c.args.totals.places c.args.totals.text) (sym c.nodes-nodes.ensures) c.requires.table in
     let first = ap (λ n. first_cause (make_causes n c.args.given)) c.len.ensures.value
     ∙ (make_refused c.args.schema.now es c.args.given c.args.totals.places c.args.totals.text command table field none
     ∙ ap (λ (l : List (ℕ × Node)). refusal_of c.args.schema.now (state_in l c.args.given) command) c.nodes-nodes.ensures) in
@@ -38,17 +38,19 @@ returns-in-Some-clause-value c =
     let es = c.nodes-nodes.result.now in
     let command = c.args.command.now in
     let r = row_of c.in-Some-Some.body.now in
-    let own = reaches c.args.schema.now es c.args.given command (option_map row_of (option_copied c.body_for-body.result)) r c.if-is_no_ref.ensures c.if-is_no_field.ensures c.body_for-body.ensures.row (ap (λ o. option_map row_of (option_copied o)) c.in-Some-Some.is-1) in
+    let own = reaches c.args.schema.now es c.args.given command (option_map row_of (option_copied c.body_for-body.result)) r c.if-is_no_ref.ensures c.if-is_no_field.ensures c.body_for-body.ensures.row
+    (ap (λ o. option_map row_of (option_copied o)) c.in-Some-Some.is-1) in
     sym (value_refused c.args.schema.now (state_in es c.args.given) command r c.in-Some.fault own c.in-Some.ensures
     ∙ ap (λ (l : List (ℕ × Node)). refusal_of c.args.schema.now (state_in l c.args.given) command) c.nodes-nodes.ensures)
 
-pub returns-in-Some-2-clause-value : goal.returns-in-Some-2-clause-value
-returns-in-Some-2-clause-value c =
+pub returns-in-Some-link_cause-clause-value : goal.returns-in-Some-link_cause-clause-value
+returns-in-Some-link_cause-clause-value c =
     let es = c.nodes-nodes.result.now in
     let command = c.args.command.now in
     let r = row_of c.in-Some-Some.body.now in
-    let own = reaches c.args.schema.now es c.args.given command (option_map row_of (option_copied c.body_for-body.result)) r c.if-is_no_ref.ensures c.if-is_no_field.ensures c.body_for-body.ensures.row (ap (λ o. option_map row_of (option_copied o)) c.in-Some-Some.is-1) in
-    sym (link_refused c.args.schema.now (state_in es c.args.given) command r c.in-Some-2.fault own c.in_default-value_cause.ensures (sym c.in-Some-2.is ∙ c.in_ok-fault.ensures.value)
+    let own = reaches c.args.schema.now es c.args.given command (option_map row_of (option_copied c.body_for-body.result)) r c.if-is_no_ref.ensures c.if-is_no_field.ensures c.body_for-body.ensures.row
+    (ap (λ o. option_map row_of (option_copied o)) c.in-Some-Some.is-1) in
+    sym (link_refused c.args.schema.now (state_in es c.args.given) command r c.in-Some-link_cause.fault own c.in_default-value_cause.ensures (sym c.in-Some-link_cause.is ∙ c.link_cause.ensures.value)
     ∙ ap (λ (l : List (ℕ × Node)). refusal_of c.args.schema.now (state_in l c.args.given) command) c.nodes-nodes.ensures)
 
 pub returns-in-Some-limit_cause-clause-value : goal.returns-in-Some-limit_cause-clause-value
@@ -56,32 +58,38 @@ returns-in-Some-limit_cause-clause-value c =
     let es = c.nodes-nodes.result.now in
     let command = c.args.command.now in
     let r = row_of c.in-Some-Some.body.now in
-    let own = reaches c.args.schema.now es c.args.given command (option_map row_of (option_copied c.body_for-body.result)) r c.if-is_no_ref.ensures c.if-is_no_field.ensures c.body_for-body.ensures.row (ap (λ o. option_map row_of (option_copied o)) c.in-Some-Some.is-1) in
-    let table = subst (λ (l : List (ℕ × Node)). IsTable c.args.schema.now l c.args.given c.args.totals.places c.args.totals.text) (sym c.nodes-nodes.ensures) c.requires in
+    let own = reaches c.args.schema.now es c.args.given command (option_map row_of (option_copied c.body_for-body.result)) r c.if-is_no_ref.ensures c.if-is_no_field.ensures c.body_for-body.ensures.row
+    (ap (λ o. option_map row_of (option_copied o)) c.in-Some-Some.is-1) in
+    let table = subst (λ (l : List (ℕ × Node)). IsTable c.args.schema.now l c.args.given c.args.totals.places c.args.totals.text) (sym c.nodes-nodes.ensures) c.requires.table in
     let found = sym (ap option_copied c.in-Some-Some.is-1) ∙ c.body_for-body.ensures.body in
     let last = c.limit_cause.ensures
-    ∙ (limit_refused c.args.schema.now es c.args.given c.args.totals.places c.args.totals.text c.in-Some-Some.holder command c.in-Some-Some.body.now table own c.in-Some-Some.ensures found c.in_default-value_cause.ensures (sym c.in_default-2.is ∙ c.in_ok-fault.ensures.value)
+    ∙ (limit_refused c.args.schema.now es c.args.given c.args.totals.places c.args.totals.text c.in-Some-Some.holder command c.in-Some-Some.body.now table own c.in-Some-Some.ensures found c.in_default-value_cause.ensures
+    (sym c.in_default-link_cause.is ∙ c.link_cause.ensures.value)
     ∙ ap (λ (l : List (ℕ × Node)). refusal_of c.args.schema.now (state_in l c.args.given) command) c.nodes-nodes.ensures) in
     sym last ∙ c.in-Some-limit_cause.is
 
 pub plan-requires-clause-text : goal.plan-requires-clause-text
 plan-requires-clause-text c =
     let es = c.args.graph.now.nodes in
-    let body = body_named es c.nodes-nodes.result.now c.holder_of.result c.in-Some-Some.holder (option_copied c.body_for-body.result) c.in-Some-Some.body.now c.nodes-nodes.ensures c.holder_of.ensures c.in-Some-Some.is-0 c.body_for-body.ensures.body (ap option_copied c.in-Some-Some.is-1) in
-    body_few c.args.schema.now es c.args.given c.args.totals.places c.args.totals.text c.in-Some-Some.holder c.in-Some-Some.body.now c.requires body
+    let body = body_named es c.nodes-nodes.result.now c.holder_of.result c.in-Some-Some.holder (option_copied c.body_for-body.result)
+    c.in-Some-Some.body.now c.nodes-nodes.ensures c.holder_of.ensures c.in-Some-Some.is-0 c.body_for-body.ensures.body (ap option_copied c.in-Some-Some.is-1) in
+    body_few c.args.schema.now es c.args.given c.args.totals.places c.args.totals.text c.in-Some-Some.holder c.in-Some-Some.body.now c.requires.table body
 
 pub returns-clause-value : goal.returns-clause-value
 returns-clause-value c =
     let es = c.nodes-nodes.result.now in
     let command = c.args.command.now in
     let r = row_of c.in-Some-Some.body.now in
-    let own = reaches c.args.schema.now es c.args.given command (option_map row_of (option_copied c.body_for-body.result)) r c.if-is_no_ref.ensures c.if-is_no_field.ensures c.body_for-body.ensures.row (ap (λ o. option_map row_of (option_copied o)) c.in-Some-Some.is-1) in
-    let table = subst (λ (l : List (ℕ × Node)). IsTable c.args.schema.now l c.args.given c.args.totals.places c.args.totals.text) (sym c.nodes-nodes.ensures) c.requires in
+    let own = reaches c.args.schema.now es c.args.given command (option_map row_of (option_copied c.body_for-body.result)) r c.if-is_no_ref.ensures c.if-is_no_field.ensures c.body_for-body.ensures.row
+    (ap (λ o. option_map row_of (option_copied o)) c.in-Some-Some.is-1) in
+    let table = subst (λ (l : List (ℕ × Node)). IsTable c.args.schema.now l c.args.given c.args.totals.places c.args.totals.text) (sym c.nodes-nodes.ensures) c.requires.table in
     let found = sym (ap option_copied c.in-Some-Some.is-1) ∙ c.body_for-body.ensures.body in
     let last = c.limit_cause.ensures
-    ∙ (limit_refused c.args.schema.now es c.args.given c.args.totals.places c.args.totals.text c.in-Some-Some.holder command c.in-Some-Some.body.now table own c.in-Some-Some.ensures found c.in_default-value_cause.ensures (sym c.in_default-2.is ∙ c.in_ok-fault.ensures.value)
+    ∙ (limit_refused c.args.schema.now es c.args.given c.args.totals.places c.args.totals.text c.in-Some-Some.holder command c.in-Some-Some.body.now table own c.in-Some-Some.ensures found c.in_default-value_cause.ensures
+    (sym c.in_default-link_cause.is ∙ c.link_cause.ensures.value)
     ∙ ap (λ (l : List (ℕ × Node)). refusal_of c.args.schema.now (state_in l c.args.given) command) c.nodes-nodes.ensures) in
-    let body = body_named c.args.graph.now.nodes es c.holder_of.result c.in-Some-Some.holder (option_copied c.body_for-body.result) c.in-Some-Some.body.now c.nodes-nodes.ensures c.holder_of.ensures c.in-Some-Some.is-0 c.body_for-body.ensures.body (ap option_copied c.in-Some-Some.is-1) in (
+    let body = body_named c.args.graph.now.nodes es c.holder_of.result c.in-Some-Some.holder (option_copied c.body_for-body.result)
+    c.in-Some-Some.body.now c.nodes-nodes.ensures c.holder_of.ensures c.in-Some-Some.is-0 c.body_for-body.ensures.body (ap option_copied c.in-Some-Some.is-1) in (
       sym last ∙ c.in_default-limit_cause.is,
       sym c.holder_of.ensures ∙ c.in-Some-Some.is-0,
       with_body (λ (b : Body). IsPlanned command (row_of b) c.args.totals.places c.args.totals.text c.plan.result) (node_at c.args.graph.now.nodes c.in-Some-Some.holder) c.in-Some-Some.body.now body c.plan.ensures,

@@ -10,22 +10,26 @@ loop-who-init c = record {
 
 pub free-requires-clause-rests : goal.free-requires-clause-rests
 free-requires-clause-rests c =
-    next_rests c.in-Some.who c.args.graph.now.nodes c.loop-who.graph.nodes c.next_loose.new.self.nodes c.loop-who.totals.places c.loop-who.totals.text c.loop-who.gone.numbers c.loop-who.invariant.swept c.in-Some.ensures.nodes (sym c.if-is_loose.ensures)
+    next_rests c.in-Some.who c.args.graph.now.nodes c.loop-who.graph.nodes c.next_loose.new.self.nodes c.loop-who.totals.places c.loop-who.totals.text c.loop-who.gone.numbers
+    c.loop-who.invariant.swept c.in-Some.ensures.nodes (sym c.if-is_loose.ensures)
 
 pub free-requires-clause-places : goal.free-requires-clause-places
 free-requires-clause-places c =
-    next_places c.in-Some.who c.args.graph.now.nodes c.loop-who.graph.nodes c.next_loose.new.self.nodes c.loop-who.totals.places c.loop-who.totals.text c.loop-who.gone.numbers c.loop-who.invariant.swept c.in-Some.ensures.nodes (sym c.if-is_loose.ensures)
+    next_places c.in-Some.who c.args.graph.now.nodes c.loop-who.graph.nodes c.next_loose.new.self.nodes c.loop-who.totals.places c.loop-who.totals.text c.loop-who.gone.numbers
+    c.loop-who.invariant.swept c.in-Some.ensures.nodes (sym c.if-is_loose.ensures)
 
 pub free-requires-clause-text : goal.free-requires-clause-text
 free-requires-clause-text c =
-    next_text c.in-Some.who c.args.graph.now.nodes c.loop-who.graph.nodes c.next_loose.new.self.nodes c.loop-who.totals.places c.loop-who.totals.text c.loop-who.gone.numbers c.loop-who.invariant.swept c.in-Some.ensures.nodes (sym c.if-is_loose.ensures)
+    next_text c.in-Some.who c.args.graph.now.nodes c.loop-who.graph.nodes c.next_loose.new.self.nodes c.loop-who.totals.places c.loop-who.totals.text c.loop-who.gone.numbers
+    c.loop-who.invariant.swept c.in-Some.ensures.nodes (sym c.if-is_loose.ensures)
 
 pub free-requires-clause-few : goal.free-requires-clause-few
 free-requires-clause-few c = omega (arith, c.loop-who.invariant.swept.texts, c.loop-who.invariant.swept.shorter, c.requires.text, c.requires.few)
 
 pub free-requires-clause-room : goal.free-requires-clause-room
 free-requires-clause-room c =
-    next_room c.in-Some.who c.args.graph.now.nodes c.loop-who.graph.nodes c.next_loose.new.self.nodes c.loop-who.totals.places c.loop-who.totals.text c.loop-who.gone.numbers c.loop-who.gone.room c.loop-who.invariant.swept c.in-Some.ensures.nodes (sym c.if-is_loose.ensures)
+    next_room c.in-Some.who c.args.graph.now.nodes c.loop-who.graph.nodes c.next_loose.new.self.nodes c.loop-who.totals.places c.loop-who.totals.text c.loop-who.gone.numbers
+    c.loop-who.gone.room c.loop-who.invariant.swept c.in-Some.ensures.nodes (sym c.if-is_loose.ensures)
     (omega (arith, c.requires.room, c.loop-who.invariant.room))
 
 pub loop-who-smaller-then-is_loose : goal.loop-who-smaller-then-is_loose
@@ -47,7 +51,8 @@ loop-who-smaller c =
 
 pub loop-who-preserved : goal.loop-who-preserved
 loop-who-preserved c = record {
-  swept = swept_rested c.in-Some.who c.args.graph.now.nodes c.loop-who.graph.nodes c.next_loose.new.self.nodes c.loop-who.totals.places c.loop-who.totals.text c.loop-who.gone.numbers c.loop-who.invariant.swept c.in-Some.ensures.nodes (sym c.if-is_loose.ensures);
+  swept = swept_rested c.in-Some.who c.args.graph.now.nodes c.loop-who.graph.nodes c.next_loose.new.self.nodes c.loop-who.totals.places c.loop-who.totals.text c.loop-who.gone.numbers
+      c.loop-who.invariant.swept c.in-Some.ensures.nodes (sym c.if-is_loose.ensures);
   room = c.loop-who.invariant.room;
 }
 

@@ -1,9 +1,10 @@
 use Rattle.std.proofs.Common.{◌≡◌, true, false, sym, ap, rules, ◌∙◌}
+use Rattle.lists.proofs.Tests.{from_is, from_not}
 use Rattle.state_model.specs.Reached.{is_among}
 use Rattle.plain_rows.proofs.Lists.{nothing_left}
 use Rattle.plain_rows.proofs.Walks.{walk_on, walk_again, walk_end, less_on, less_again}
 use Rattle.instance_table.specs.Ways.{rows_along}
-use Rattle.instance_table.proofs.WayLaws.{along_rise, from_is, from_not, still_unseen}
+use Rattle.instance_table.proofs.WayLaws.{along_rise, still_unseen}
 use Rattle.instance_table.proofs.walk.turn.Goals as goal
 
 pub returns-in_default : goal.returns-in_default

@@ -24,10 +24,12 @@ found_is JoinById rooms q (Some def) = refl
 found_is Reconnect rooms q (Some def) = refl
 
 -- what it found is what it is said to find
-is : (m : Method) (defs : List RoomDef) (rooms : List Listing) (q : Request) (name : List ℕ) (criteria : List (List ℕ)) (def room : Option ℕ) → m ≡ q.method → name ≡ q.name → criteria ≡ q.criteria → def ≡ position (λ (d : RoomDef). bytes_eq d.name name) defs
+is : (m : Method) (defs : List RoomDef) (rooms : List Listing) (q : Request) (name : List ℕ) (criteria : List (List ℕ)) (def room : Option ℕ) → m ≡ q.method → name ≡ q.name
+    → criteria ≡ q.criteria → def ≡ position (λ (d : RoomDef). bytes_eq d.name name) defs
     → room ≡ option_and_then (λ d. position (meets d criteria) rooms) def → found_decision m def room ≡ by_def defs rooms q
 is m defs rooms q name criteria def room method named same defined oldest =
-    ap (found_decision m def) (oldest ∙ ap (λ (cs : List (List ℕ)). option_and_then (λ d. position (meets d cs) rooms) def) same) ∙ found_is m rooms q def ∙ ap₂ (λ m o. option_map_or (in_def m rooms q) o (decision.Refuse NO_HANDLER (codes "no handler"))) method (defined ∙ ap (λ n. position (λ (d : RoomDef). bytes_eq d.name n) defs) named)
+    ap (found_decision m def) (oldest ∙ ap (λ (cs : List (List ℕ)). option_and_then (λ d. position (meets d cs) rooms) def) same) ∙ found_is m rooms q def
+    ∙ ap₂ (λ m o. option_map_or (in_def m rooms q) o (decision.Refuse NO_HANDLER (codes "no handler"))) method (defined ∙ ap (λ n. position (λ (d : RoomDef). bytes_eq d.name n) defs) named)
 
 same : (c : goal.After-decide_found) → found_decision c.args.request.now.method c.def_at-def.result c.oldest_in-room.result ≡ by_def c.args.defs.now c.args.rooms.now c.args.request.now
 same c = is c.args.request.now.method c.args.defs.now c.args.rooms.now c.args.request.now _ _ c.def_at-def.result c.oldest_in-room.result refl c.as_str.ensures c.as_slice.ensures c.def_at-def.ensures c.oldest_in-room.ensures

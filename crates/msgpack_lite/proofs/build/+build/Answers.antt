@@ -106,7 +106,8 @@ members_from-returns-in_err-name-clause-value t c =
     let l = c.members in
     let e = c.in_err-name.field-0.0 in
     let is : c.from_residual-in_err-name.result ≡ Err e = grind arith in
-    rw is (gives-is members_data e _ (l.invariant.1 ∙ members-key_fault (pack_at c.args.levels bytes) bytes (c.args.count - l.counter) (c.args.count - (l.counter + 1)) l.at e (members_data l.found) (omega (arith, c.members-test.true)) c.in_err-name.ensures.value))
+    rw is (gives-is members_data e _ (l.invariant.1 ∙ members-key_fault (pack_at c.args.levels bytes) bytes (c.args.count - l.counter) (c.args.count - (l.counter + 1)) l.at e
+    (members_data l.found) (omega (arith, c.members-test.true)) c.in_err-name.ensures.value))
 
 pub members_from-returns-in_err-value-clause-value : goal.members_from-returns-in_err-value-clause-value
 members_from-returns-in_err-value-clause-value t c =
@@ -114,7 +115,9 @@ members_from-returns-in_err-value-clause-value t c =
     let l = c.members in
     let e = c.in_err-value.field-0.0 in
     let is : c.from_residual-in_err-value.result ≡ Err e = grind arith in
-    rw is (gives-fault data_of members_data e _ _ c.in_err-value.ensures.value (λ h. l.invariant.1 ∙ members-fault (pack_at c.args.levels bytes) bytes (c.args.count - l.counter) (c.args.count - (l.counter + 1)) l.at c.in_ok-name.behind c.in_ok-name.name.now e (members_data l.found) (omega (arith, c.members-test.true)) c.in_ok-name.ensures.value h))
+    rw is (gives-fault data_of members_data e _ _ c.in_err-value.ensures.value
+    (λ h. l.invariant.1 ∙ members-fault (pack_at c.args.levels bytes) bytes (c.args.count - l.counter) (c.args.count - (l.counter + 1)) l.at c.in_ok-name.behind c.in_ok-name.name.now e
+    (members_data l.found) (omega (arith, c.members-test.true)) c.in_ok-name.ensures.value h))
 
 pub members_from-members-preserved : goal.members_from-members-preserved
 members_from-members-preserved t c =
@@ -125,7 +128,8 @@ members_from-members-preserved t c =
     let d = data_of c.in_ok-value.value in
     let named : c.in_ok-key.key ≡ c.in_ok-name.name.now = c.in_ok-key.ensures in (
       c.in_ok-value.ensures.within,
-      l.invariant.1 ∙ (members-step f bytes (c.args.count - l.counter) left l.at c.in_ok-name.behind c.in_ok-value.next c.in_ok-name.name.now d (members_data l.found) (omega (arith, c.members-test.true)) c.in_ok-name.ensures.value c.in_ok-value.ensures.value
+      l.invariant.1 ∙ (members-step f bytes (c.args.count - l.counter) left l.at c.in_ok-name.behind c.in_ok-value.next c.in_ok-name.name.now d (members_data l.found)
+          (omega (arith, c.members-test.true)) c.in_ok-name.ensures.value c.in_ok-value.ensures.value
           ∙ (ap (λ q. behind (members_more (members_data l.found) q d) (members_at f bytes left c.in_ok-value.next)) (sym named) ∙ ap (λ ms. behind ms (members_at f bytes left c.in_ok-value.next)) (sym c.in_ok-push.ensures))),
     )
 

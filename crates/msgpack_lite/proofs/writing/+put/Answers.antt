@@ -4,7 +4,8 @@ use Rattle.std.proofs.lemmas.List.{append_assoc, append-nil, drop_more, drop_all
 use Rattle.frame_model.specs.PackData.{data_of, items_data, items_view, members_data, members_view}
 use Rattle.frame_model.specs.Packs.{dict_head, items_are_texts, items_bytes, items_depth, items_have_bytes, items_len, list_head, members_are_texts, members_bytes, members_depth, members_have_bytes, members_len, pack_bytes, text_bytes}
 use Rattle.lists.proofs.Prefixes.{starts_before}
-use Rattle.msgpack_lite.proofs.WriteLaws.{items_len-view, members_len-view, first_has, rest_has, first_depth, rest_depth, next_bytes, first_key, first_value, rest_have, value_depth, pairs_depth, next_pair_bytes, short_is, on_err, texts_too, pair_texts_too}
+use Rattle.lists.proofs.Results.{on_err}
+use Rattle.msgpack_lite.proofs.WriteLaws.{items_len-view, members_len-view, first_has, rest_has, first_depth, rest_depth, next_bytes, first_key, first_value, rest_have, value_depth, pairs_depth, next_pair_bytes, short_is, texts_too, pair_texts_too}
 use Rattle.msgpack_lite.proofs.writing.+put.Goals as goal
 
 -- ---- lists

@@ -1,9 +1,10 @@
 use Rattle.std.proofs.Common.{[]}
-use Rattle.outside.proofs.StdLaws.{appends_takes, takes_kept, takes_nothing}
+use Rattle.outside.proofs.TakeLaws.{takes_none}
+use Rattle.outside.proofs.StdLaws.{appends_takes, takes_kept}
 use Rattle.outside.proofs.std_sink.write_some.Goals as goal
 
 pub loop-init : goal.loop-init
-loop-init g c = record { none = takes_nothing (g.W.Write.contents c.args.writer.now) }
+loop-init g c = record { none = takes_none (g.W.Write.contents c.args.writer.now) }
 
 pub returns-in-Ok-clause-taken : goal.returns-in-Ok-clause-taken
 returns-in-Ok-clause-taken g c = appends_takes (g.W.Write.contents c.args.writer.now) _ _ _ c.loop.invariant.none c.in-Ok.ensures.bytes

@@ -19,7 +19,8 @@ read_step-requires-clause-kind c = goes_open c.args.schema.now c.args.rows.now c
 pub returns-in_err-at : goal.returns-in_err-at
 returns-in_err-at c =
     let below : c.loop-at.at < length c.args.bytes.now = omega arith in
-    let wrong : Leads c.args.schema.now c.args.rows.now c.args.bytes.now (Err c.in_err-at.field-0.0) = goes_wrong c.args.schema.now c.args.rows.now c.args.bytes.now c.loop-at.run c.read_step.new.run c.loop-at.at c.in_err-at.field-0.0 c.loop-at.invariant below c.in_err-at.ensures in
+    let wrong : Leads c.args.schema.now c.args.rows.now c.args.bytes.now (Err c.in_err-at.field-0.0) =
+    goes_wrong c.args.schema.now c.args.rows.now c.args.bytes.now c.loop-at.run c.read_step.new.run c.loop-at.at c.in_err-at.field-0.0 c.loop-at.invariant below c.in_err-at.ensures in
     search rules
 
 pub loop-at-smaller : goal.loop-at-smaller

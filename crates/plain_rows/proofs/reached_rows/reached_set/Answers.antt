@@ -22,7 +22,8 @@ loop-number-smaller-in-Continue-branch-3 c =
 
 pub loop-number-preserved-in-Continue-branch-3 : goal.loop-number-preserved-in-Continue-branch-3
 loop-number-preserved-in-Continue-branch-3 c =
-    rw (c.in_ok-add_links.ensures, c.in_ok-insert.ensures.numbers) (walk_on c.args.rows.now c.args.from c.loop-number.seen c.loop-number.waiting.items c.pop.new.self.items c.in-Some.number c.know_rising.ensures c.loop-number.invariant c.in-Some.ensures.items)
+    rw (c.in_ok-add_links.ensures, c.in_ok-insert.ensures.numbers)
+    (walk_on c.args.rows.now c.args.from c.loop-number.seen c.loop-number.waiting.items c.pop.new.self.items c.in-Some.number c.know_rising.ensures c.loop-number.invariant c.in-Some.ensures.items)
 
 pub loop-number-smaller : goal.loop-number-smaller
 loop-number-smaller c =

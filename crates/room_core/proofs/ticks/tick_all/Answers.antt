@@ -2,6 +2,7 @@ use Rattle.std.proofs.Common.{◌≡◌, ◌<◌, ◌≤◌, ◌+◌, ◌++◌, 
 use Rattle.std.proofs.lemmas.List.{length-set}
 use Rattle.std.proofs.lemmas.Option.{slice_get-get_or}
 use Rattle.std.specs.List.{sum_by}
+use Rattle.lists.proofs.Results.{on_err}
 use Rattle.room_core.specs.declared.client.Client.{Client}
 use Rattle.room_core.specs.Clients.{client_tells}
 use Rattle.room_core.specs.Costs.{session_cost}
@@ -9,7 +10,6 @@ use Rattle.room_core.specs.Stands.{ClientStands}
 use Rattle.room_core.specs.Values.{session_of_client}
 use Rattle.live_state.specs.Live.{rows_of, schema_of}
 use Rattle.room_core.proofs.ClientLists.{told_set}
-use Rattle.room_core.proofs.Edited.{on_err}
 use Rattle.room_core.specs.Ticks.{sent_to}
 use Rattle.room_core.proofs.Prefixes.{all_passed}
 use Rattle.room_core.proofs.TickedAll.{Done, written_back, done_more, next_same, cost_more, cost_after, outs_at, session_at}
@@ -82,7 +82,7 @@ returns-in_err-frames-clause-told g c =
     let there = slice_get-get_or items at c.client-item.result (omega arith) in
     let told = told_set items at one c.tick_one.new.client there c.tick_one.ensures.told ∙ (c.loop-client.invariant.told ∙ ap (map client_tells) c.deref_mut-client-items.ensures.value) in
     let all : clients.len ≡ length (set items at c.tick_one.new.client) = omega (arith, long, clients.ok.0, ap length c.deref_mut-client-items.ensures.value, length-set items at c.tick_one.new.client) in
-    on_err _ c.from_residual.result (ap (map client_tells) (written_back clients.len (set items at c.tick_one.new.client) clients.items all) ∙ told)
+    on_err c.from_residual.result (ap (map client_tells) (written_back clients.len (set items at c.tick_one.new.client) clients.items all) ∙ told)
 
 pub returns-in_err-send_each-clause-told : goal.returns-in_err-send_each-clause-told
 returns-in_err-send_each-clause-told g c =
@@ -95,4 +95,4 @@ returns-in_err-send_each-clause-told g c =
     let there = slice_get-get_or items at c.client-item.result (omega arith) in
     let told = told_set items at one c.tick_one.new.client there c.tick_one.ensures.told ∙ (c.loop-client.invariant.told ∙ ap (map client_tells) c.deref_mut-client-items.ensures.value) in
     let all : clients.len ≡ length (set items at c.tick_one.new.client) = omega (arith, long, clients.ok.0, ap length c.deref_mut-client-items.ensures.value, length-set items at c.tick_one.new.client) in
-    on_err _ c.from_residual-in_err-send_each.result (ap (map client_tells) (written_back clients.len (set items at c.tick_one.new.client) clients.items all) ∙ told)
+    on_err c.from_residual-in_err-send_each.result (ap (map client_tells) (written_back clients.len (set items at c.tick_one.new.client) clients.items all) ∙ told)

@@ -51,7 +51,8 @@ returns-clause-items g c =
     let some : is_some (find g.T.Keyed.key (g.T.Keyed.key c.args.item) items) ≡ true = ap is_some (found ∙ ap (λ s. s.item) (sym c.index.ensures)) ∙ (c.is_none.ensures ∙ ap not c.if-is_none.false) in
     let slot : Slot g.row.T.Denot = record { number = g.T.Keyed.key c.args.item; item = Some c.args.item } in
     rw (c.replace.ensures.after, c.key-number.ensures, some)
-    (items-put item_of item_agrees g.T.Keyed.key 0 c.args.item slot c.args.slots.now.items c.in-Ok.at c.index.result.now refl c.requires.rises c.requires.own here.0 (here.1 c.index.result.now) (ap (λ s. is_some s.item) (sym c.index.ensures) ∙ (c.is_none.ensures ∙ ap not c.if-is_none.false)))
+    (items-put item_of item_agrees g.T.Keyed.key 0 c.args.item slot c.args.slots.now.items c.in-Ok.at c.index.result.now refl c.requires.rises c.requires.own here.0 (here.1 c.index.result.now)
+    (ap (λ s. is_some s.item) (sym c.index.ensures) ∙ (c.is_none.ensures ∙ ap not c.if-is_none.false)))
 
 pub returns-clause-rises : goal.returns-clause-rises
 returns-clause-rises g c =

@@ -34,4 +34,8 @@ invariant_of-self-in-Err c =
     let none = rw (← c.self.view_is) at c.requires in
     let less : IsWithoutValue c.put.new.self c.take_back.new.index c.args.value c.self.inside.given =
     subst (λ (i : SetItem). IsWithoutValue c.put.new.self c.take_back.new.index i.value i.number) c.in-Err.ensures.err c.take_back.ensures in
-    rw c.in-Err.ensures.items (c.self.invariant.0, undone_index c.self.inside.items c.self.inside.index c.self.invariant.1 c.put.new.self c.take_back.new.index c.args.value c.self.inside.given c.self.invariant.0.below none c.in_ok-put.ensures.ok less)
+    rw c.in-Err.ensures.items (
+      c.self.invariant.0,
+      undone_index c.self.inside.items c.self.inside.index c.self.invariant.1 c.put.new.self c.take_back.new.index c.args.value
+          c.self.inside.given c.self.invariant.0.below none c.in_ok-put.ensures.ok less,
+    )

@@ -14,4 +14,5 @@ returns-clause-takes g c =
     (act_step (rules_of g.R.RoomLike.handled) (hub_of g.R.RoomLike.room old) c.args.room c.args.act) c.handle_in.ensures.hub c.handle_in.ensures.outs c.handle_in.ensures.stands
 
 pub returns-clause-cost : goal.returns-clause-cost
-returns-clause-cost g c = event_cost g.R.RoomLike.room g.R.RoomLike.costs (rules_of g.R.RoomLike.handled) c.args.self.now (happened.Act c.args.room c.args.act) c.args.room (event.Act c.args.act) c.handle_in.new.steps c.args.steps.now (λ r. refl) c.handle_in.ensures.cost
+returns-clause-cost g c = event_cost g.R.RoomLike.room g.R.RoomLike.costs (rules_of g.R.RoomLike.handled) c.args.self.now (happened.Act c.args.room c.args.act) c.args.room
+    (event.Act c.args.act) c.handle_in.new.steps c.args.steps.now (λ r. refl) c.handle_in.ensures.cost

@@ -27,7 +27,18 @@ own_is : (g : Over) (c : goal.In_ok-push g) → c.index-as_slice-def.result ≡ 
 own_is g c = c.index-as_slice-def.is ∙ ap (λ ds. get_or ds c.args.def c.index-as_slice-def.result) c.as_slice.ensures
 
 added : (g : Over) (c : goal.In_ok-push g) (d : RoomDef) → slice_get c.args.self.now.defs c.args.def ≡ Some d
-    → Added g.R.RoomLike.room g.R.RoomLike.Holds d c.args.def c.args.criteria c.args.room c.in_ok-at.at.serial c.args.self.now (record { alloc = c.args.self.now.alloc; moment = c.args.self.now.moment; schema = c.args.self.now.schema; process = c.args.self.now.process; defs = c.args.self.now.defs; registry = c.push.new.self; conns = c.args.self.now.conns; session_rooms = c.args.self.now.session_rooms }) c.args.outs.now c.push-2.new.self
+    → Added g.R.RoomLike.room g.R.RoomLike.Holds d c.args.def c.args.criteria c.args.room c.in_ok-at.at.serial c.args.self.now
+    (record {
+      alloc = c.args.self.now.alloc;
+      moment = c.args.self.now.moment;
+      schema = c.args.self.now.schema;
+      process = c.args.self.now.process;
+      defs = c.args.self.now.defs;
+      registry =
+          c.push.new.self;
+      conns = c.args.self.now.conns;
+      session_rooms = c.args.self.now.session_rooms;
+    }) c.args.outs.now c.push-2.new.self
 added g c d there =
     let old = c.args.self.now in
     let own = c.index-as_slice-def.result in
@@ -43,8 +54,10 @@ added g c d there =
       is = is;
       rooms = c.in_ok-at.ensures.rooms.rooms;
       above = c.in_ok-at.ensures.above;
-      outs = c.in_ok-push.ensures ∙ ap (λ n. c.args.outs.now ++ out.Created c.args.room n ∷ []) named ∙ ap (λ (s : RoomEntry g.row.R.Denot). c.args.outs.now ++ created_out (hub_of g.R.RoomLike.room old) (room_in g.R.RoomLike.room s) ∷ []) (sym (given_is g c));
-      order = order_added g.R.RoomLike.room g.R.RoomLike.Holds g.met.R.RoomLike.begins d c.args.def c.args.criteria c.args.room old c.requires.order (made g c) is (subst (λ n. IsAbove serial_of n old.registry.rooms) (sym number) c.in_ok-at.ensures.above) c.requires.room _ c.in_ok-at.ensures.rooms.rooms c.in_ok-at.ensures.kept c.in_ok-at.ensures.count refl refl refl refl refl;
+      outs = c.in_ok-push.ensures ∙ ap (λ n. c.args.outs.now ++ out.Created c.args.room n ∷ []) named
+          ∙ ap (λ (s : RoomEntry g.row.R.Denot). c.args.outs.now ++ created_out (hub_of g.R.RoomLike.room old) (room_in g.R.RoomLike.room s) ∷ []) (sym (given_is g c));
+      order = order_added g.R.RoomLike.room g.R.RoomLike.Holds g.met.R.RoomLike.begins d c.args.def c.args.criteria c.args.room old c.requires.order (made g c) is
+          (subst (λ n. IsAbove serial_of n old.registry.rooms) (sym number) c.in_ok-at.ensures.above) c.requires.room _ c.in_ok-at.ensures.rooms.rooms c.in_ok-at.ensures.kept c.in_ok-at.ensures.count refl refl refl refl refl;
       conns = refl;
       moment = refl;
       schema = refl;
@@ -55,6 +68,18 @@ added g c d there =
 pub returns : goal.returns
 returns g c = by_def (slice_get c.args.self.now.defs c.args.def) refl
   where
-    by_def : (o : Option RoomDef) → slice_get c.args.self.now.defs c.args.def ≡ o → IfSome o (λ d. Added g.R.RoomLike.room g.R.RoomLike.Holds d c.args.def c.args.criteria c.args.room c.in_ok-at.at.serial c.args.self.now (record { alloc = c.args.self.now.alloc; moment = c.args.self.now.moment; schema = c.args.self.now.schema; process = c.args.self.now.process; defs = c.args.self.now.defs; registry = c.push.new.self; conns = c.args.self.now.conns; session_rooms = c.args.self.now.session_rooms }) c.args.outs.now c.push-2.new.self)
+    by_def : (o : Option RoomDef) → slice_get c.args.self.now.defs c.args.def ≡ o
+        → IfSome o (λ d. Added g.R.RoomLike.room g.R.RoomLike.Holds d c.args.def c.args.criteria c.args.room c.in_ok-at.at.serial c.args.self.now
+        (record {
+          alloc = c.args.self.now.alloc;
+          moment = c.args.self.now.moment;
+          schema = c.args.self.now.schema;
+          process = c.args.self.now.process;
+          defs = c.args.self.now.defs;
+          registry =
+              c.push.new.self;
+          conns = c.args.self.now.conns;
+          session_rooms = c.args.self.now.session_rooms;
+        }) c.args.outs.now c.push-2.new.self)
     by_def None is = tt
     by_def (Some d) is = added g c d is

@@ -26,7 +26,8 @@ returns g c =
     let o = c.def_at-def.result in
     let n = c.in_ok-oldest.oldest in
     let o_is = def_is c.as_slice.result.now old.defs q.name c.as_str.result.now o c.def_at-def.ensures c.as_slice.ensures c.as_str.ensures in
-    let n_is : n ≡ option_and_then (oldest_of_def g.R.RoomLike.room old.registry.rooms q.criteria) o = c.in_ok-oldest.ensures ∙ ap (λ (cs : List (List ℕ)). option_and_then (oldest_of_def g.R.RoomLike.room old.registry.rooms cs) o) c.as_slice-2.ensures in
+    let n_is : n ≡ option_and_then (oldest_of_def g.R.RoomLike.room old.registry.rooms q.criteria) o = c.in_ok-oldest.ensures
+    ∙ ap (λ (cs : List (List ℕ)). option_and_then (oldest_of_def g.R.RoomLike.room old.registry.rooms cs) o) c.as_slice-2.ensures in
     let place : c.only_place-room.result ≡ place_of n = c.only_place-room.ensures ∙ place_is n in
     let leads_to : c.in_room.result ≡ outcome_in (number_or n) q.criteria (found_decision q.method o (place_of n)) =
     c.in_room.ensures ∙ ap₂ (λ k d. outcome_in k q.criteria d) (c.unwrap_or.ensures ∙ number_is n) (c.in_ok-decision.ensures.value ∙ ap (found_decision q.method o) place) in

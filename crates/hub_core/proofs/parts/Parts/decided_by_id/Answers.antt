@@ -24,7 +24,8 @@ returns-in_default g c =
     let old = c.args.self.now in
     let q = c.args.request.now in
     let h = hub_of g.R.RoomLike.room old in
-    subst (Leads old.registry.rooms (length old.defs) q.criteria (decide old.defs (listings h) q (kept_session h q))) (sym (c.in_room.ensures ∙ led_same 0 _ _ (search rules) ∙ ap (outcome_in 0 []) (c.in_ok-decision.ensures.value ∙ ap (λ ds. decide ds [] q None) c.as_slice.ensures)))
+    subst (Leads old.registry.rooms (length old.defs) q.criteria (decide old.defs (listings h) q (kept_session h q)))
+    (sym (c.in_room.ensures ∙ led_same 0 _ _ (search rules) ∙ ap (outcome_in 0 []) (c.in_ok-decision.ensures.value ∙ ap (λ ds. decide ds [] q None) c.as_slice.ensures)))
     (leads_nowhere g.R.RoomLike.room old q (ap (λ n. find (has_id n) old.registry.rooms) (sym c.as_str.ensures) ∙ sym c.in_default.ensures) c.requires.by_id)
 
 pub returns : goal.returns
@@ -33,5 +34,6 @@ returns g c =
     let q = c.args.request.now in
     let h = hub_of g.R.RoomLike.room old in
     let s = c.in-Some.entry.now in
-    subst (Leads old.registry.rooms (length old.defs) q.criteria (decide old.defs (listings h) q (kept_session h q))) (sym (c.in_room-2.ensures ∙ led_same s.serial _ _ (search rules) ∙ ap (outcome_in s.serial []) (c.in_ok-decision-2.ensures.value ∙ decide_same _ _ _ _ q _ _ c.as_slice-2.ensures (ap (λ l. l ∷ []) c.listed.ensures) c.kept_by-kept.ensures)))
+    subst (Leads old.registry.rooms (length old.defs) q.criteria (decide old.defs (listings h) q (kept_session h q)))
+    (sym (c.in_room-2.ensures ∙ led_same s.serial _ _ (search rules) ∙ ap (outcome_in s.serial []) (c.in_ok-decision-2.ensures.value ∙ decide_same _ _ _ _ q _ _ c.as_slice-2.ensures (ap (λ l. l ∷ []) c.listed.ensures) c.kept_by-kept.ensures)))
     (leads_there g.R.RoomLike.room old q s (ap (λ n. find (has_id n) old.registry.rooms) (sym c.as_str.ensures) ∙ sym c.in-Some.ensures) c.requires.by_id)

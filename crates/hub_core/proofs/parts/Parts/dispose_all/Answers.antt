@@ -25,7 +25,8 @@ rooms-preserved g c =
     leaving_next g.R.RoomLike.room g.R.RoomLike.Holds g.R.RoomLike.handled (lawful g) c.in-Some.serial.now c.next.new.self c.args.self.now c.rooms.self c.dispose.new.self c.args.outs.now c.rooms.outs c.dispose.new.outs
     (subst (λ ks. Leaving g.R.RoomLike.room g.R.RoomLike.Holds ks c.args.self.now c.rooms.self c.args.outs.now c.rooms.outs) c.in-Some.ensures.steps c.rooms.invariant)
     c.dispose.ensures.ordered
-    (subst (λ k. IfSome (find_by serial_of k c.rooms.self.registry.rooms) (λ t. c.dispose.new.self.rooms ≡ (if is_needed (room_in g.R.RoomLike.room t) then c.rooms.self.registry.rooms else remove serial_of k c.rooms.self.registry.rooms))) c.reference-at.ensures c.in_ok-dispose.ensures.rooms)
+    (subst (λ k. IfSome (find_by serial_of k c.rooms.self.registry.rooms)
+    (λ t. c.dispose.new.self.rooms ≡ (if is_needed (room_in g.R.RoomLike.room t) then c.rooms.self.registry.rooms else remove serial_of k c.rooms.self.registry.rooms))) c.reference-at.ensures c.in_ok-dispose.ensures.rooms)
     (subst (λ k. IfSome (find_by serial_of k c.rooms.self.registry.rooms) (λ t. c.dispose.new.outs ≡ c.rooms.outs ++ disposals (room_in g.R.RoomLike.room t ∷ []))) c.reference-at.ensures c.in_ok-dispose.ensures.outs)
     c.in_ok-dispose.ensures.kept c.in_ok-dispose.ensures.count _ refl refl refl refl refl refl refl
 

@@ -24,11 +24,14 @@ pub returns-clause-takes : goal.returns-clause-takes
 returns-clause-takes g c =
     let old = c.args.self.now in
     let h = hub_of g.R.RoomLike.room old in
-    takes_handled g.R.RoomLike.room g.R.RoomLike.Holds g.R.RoomLike.handled (happened.Frame c.args.conn c.args.bytes) old c.handle_in.new.self c.args.outs.now c.handle_in.new.outs c.linked.inside.room (event.Frame c.linked.inside.session c.args.bytes) c.handle_in.result
-    (frame_step (rules_of g.R.RoomLike.handled) h c.args.conn c.args.bytes (conn_of c.linked.inside) (sym (ap Some c.linked.view_is ∙ c.in-Some.ensures.value)) (room_there g.R.RoomLike.room g.R.RoomLike.Holds old c.requires c.args.conn (conn_of c.linked.inside) (ap Some c.linked.view_is ∙ c.in-Some.ensures.value)))
+    takes_handled g.R.RoomLike.room g.R.RoomLike.Holds g.R.RoomLike.handled (happened.Frame c.args.conn c.args.bytes) old c.handle_in.new.self c.args.outs.now c.handle_in.new.outs c.linked.inside.room
+    (event.Frame c.linked.inside.session c.args.bytes) c.handle_in.result
+    (frame_step (rules_of g.R.RoomLike.handled) h c.args.conn c.args.bytes (conn_of c.linked.inside) (sym (ap Some c.linked.view_is ∙ c.in-Some.ensures.value))
+    (room_there g.R.RoomLike.room g.R.RoomLike.Holds old c.requires c.args.conn (conn_of c.linked.inside) (ap Some c.linked.view_is ∙ c.in-Some.ensures.value)))
     c.handle_in.ensures.hub c.handle_in.ensures.outs c.handle_in.ensures.stands
 
 pub returns-clause-cost : goal.returns-clause-cost
 returns-clause-cost g c =
-    event_cost g.R.RoomLike.room g.R.RoomLike.costs (rules_of g.R.RoomLike.handled) c.args.self.now (happened.Frame c.args.conn c.args.bytes) c.linked.inside.room (event.Frame c.linked.inside.session c.args.bytes) c.handle_in.new.steps c.args.steps.now
+    event_cost g.R.RoomLike.room g.R.RoomLike.costs (rules_of g.R.RoomLike.handled) c.args.self.now (happened.Frame c.args.conn c.args.bytes) c.linked.inside.room
+    (event.Frame c.linked.inside.session c.args.bytes) c.handle_in.new.steps c.args.steps.now
     (λ r. ap (event_of_conn r (λ session. event.Frame session c.args.bytes)) (sym (ap Some c.linked.view_is ∙ c.in-Some.ensures.value))) c.handle_in.ensures.cost

@@ -16,8 +16,10 @@ lawful : (g : Over) → Lawful g.R.RoomLike.Holds g.R.RoomLike.handled
 lawful g = record { goes_on = g.met.R.RoomLike.goes_on; tells = g.met.R.RoomLike.tells; seats = g.met.R.RoomLike.seats; names = g.met.R.RoomLike.names; quiet = g.met.R.RoomLike.quiet; keepers = g.met.R.RoomLike.keepers }
 
 -- the room of the number behind its step
-it : (g : Over) (c : goal.After-drop-sessions-2 g) → There (find_by serial_of c.args.at.serial c.args.self.now.registry.rooms) (λ s. IsStepped g.R.RoomLike.room g.R.RoomLike.is_spent s c.args.self.now.registry.rooms c.step.new.self.rooms (g.R.RoomLike.handled (g.R.RoomLike.room s.room) c.args.event.now).0)
-it g c = there (find_by serial_of c.args.at.serial c.args.self.now.registry.rooms) (λ s. IsStepped g.R.RoomLike.room g.R.RoomLike.is_spent s c.args.self.now.registry.rooms c.step.new.self.rooms (g.R.RoomLike.handled (g.R.RoomLike.room s.room) c.args.event.now).0) c.requires.there c.in_ok-given.ensures.after
+it : (g : Over) (c : goal.After-drop-sessions-2 g) → There (find_by serial_of c.args.at.serial c.args.self.now.registry.rooms)
+    (λ s. IsStepped g.R.RoomLike.room g.R.RoomLike.is_spent s c.args.self.now.registry.rooms c.step.new.self.rooms (g.R.RoomLike.handled (g.R.RoomLike.room s.room) c.args.event.now).0)
+it g c = there (find_by serial_of c.args.at.serial c.args.self.now.registry.rooms)
+    (λ s. IsStepped g.R.RoomLike.room g.R.RoomLike.is_spent s c.args.self.now.registry.rooms c.step.new.self.rooms (g.R.RoomLike.handled (g.R.RoomLike.room s.room) c.args.event.now).0) c.requires.there c.in_ok-given.ensures.after
 
 abbrev was : (g : Over) (c : goal.After-drop-sessions-2 g) → RoomEntry g.row.R.Denot
 was g c = (it g c).it
@@ -40,11 +42,14 @@ conns_are g c =
 pub returns-clause-same : goal.returns-clause-same
 returns-clause-same g c =
     subst (λ o. IfSome o (λ (s : RoomEntry g.row.R.Denot). c.is_some.result ≡ false → (g.R.RoomLike.handled (g.R.RoomLike.room s.room) c.args.event.now).0.seats ≡ (g.R.RoomLike.room s.room).seats)) (sym (it g c).is)
-    (turn.same_seats g.R.RoomLike.room g.R.RoomLike.is_spent g.R.RoomLike.Holds g.R.RoomLike.handled (lawful g) c.args.event.now c.args.at.serial c.args.self.now c.requires.order c.step.ensures.ordered (was g c) (it g c).is (may g c) c.step.new.self (it g c).holds
+    (turn.same_seats g.R.RoomLike.room g.R.RoomLike.is_spent g.R.RoomLike.Holds g.R.RoomLike.handled (lawful g) c.args.event.now c.args.at.serial c.args.self.now c.requires.order c.step.ensures.ordered
+    (was g c) (it g c).is (may g c) c.step.new.self (it g c).holds
     c.in_ok-given.field-0.change c.in_ok-given.field-0.outs c.is_some.result (outs_are g c) c.is_some.ensures c.in_ok-given.ensures.change)
 
 pub returns-clause-order : goal.returns-clause-order
 returns-clause-order g c =
-    turn.order_stepped g.R.RoomLike.room g.R.RoomLike.is_spent g.R.RoomLike.Holds g.R.RoomLike.handled (lawful g) c.args.event.now c.args.at.serial c.args.self.now c.requires.order c.step.ensures.ordered (was g c) (it g c).is (may g c) c.step.new.self (it g c).holds c.args.self.now.conns
-    (turn.were_there g.R.RoomLike.room g.R.RoomLike.is_spent g.R.RoomLike.Holds g.R.RoomLike.handled (lawful g) c.args.event.now c.args.at.serial c.args.self.now c.requires.order c.step.ensures.ordered (was g c) (it g c).is (may g c) c.step.new.self (it g c).holds c.args.self.now.conns c.requires.order.conns)
+    turn.order_stepped g.R.RoomLike.room g.R.RoomLike.is_spent g.R.RoomLike.Holds g.R.RoomLike.handled (lawful g) c.args.event.now c.args.at.serial c.args.self.now c.requires.order c.step.ensures.ordered
+    (was g c) (it g c).is (may g c) c.step.new.self (it g c).holds c.args.self.now.conns
+    (turn.were_there g.R.RoomLike.room g.R.RoomLike.is_spent g.R.RoomLike.Holds g.R.RoomLike.handled (lawful g) c.args.event.now c.args.at.serial c.args.self.now c.requires.order c.step.ensures.ordered
+    (was g c) (it g c).is (may g c) c.step.new.self (it g c).holds c.args.self.now.conns c.requires.order.conns)
     _ refl (conns_are g c) refl refl refl refl c.in_ok-given.ensures.kept c.in_ok-given.ensures.count c.requires.names c.requires.homes

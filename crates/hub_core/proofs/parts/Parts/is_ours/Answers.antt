@@ -15,7 +15,8 @@ pub returns-in-Some : goal.returns-in-Some
 returns-in-Some g c =
     let same : c.eq.result ≡ bytes_eq c.args.opening.now.process c.args.self.now.process = search rules in
     same ∙ and_true (bytes_eq c.args.opening.now.process c.args.self.now.process)
-    ∙ ap (λ b. bytes_eq c.args.opening.now.process c.args.self.now.process && b) (sym (known_by g.R.RoomLike.room c.args.opening.now.room c.args.self.now.registry.rooms (Some c.in-Some.field-0.serial) (rw (← c.opening.view_is, ← c.self.view_is) c.in-Some.ensures)))
+    ∙ ap (λ b. bytes_eq c.args.opening.now.process c.args.self.now.process && b)
+    (sym (known_by g.R.RoomLike.room c.args.opening.now.room c.args.self.now.registry.rooms (Some c.in-Some.field-0.serial) (rw (← c.opening.view_is, ← c.self.view_is) c.in-Some.ensures)))
 
 pub returns-in-None : goal.returns-in-None
 returns-in-None g c =

@@ -24,8 +24,10 @@ pub returns-clause-takes : goal.returns-clause-takes
 returns-clause-takes g c =
     let old = c.args.self.now in
     let h = hub_of g.R.RoomLike.room old in
-    takes_handled g.R.RoomLike.room g.R.RoomLike.Holds g.R.RoomLike.handled (happened.Lost c.args.conn) old c.handle_in.new.self c.args.outs.now c.handle_in.new.outs c.linked.inside.room (event.Lost c.linked.inside.session old.moment) c.handle_in.result
-    (lost_step (rules_of g.R.RoomLike.handled) h c.args.conn (conn_of c.linked.inside) (sym (ap Some c.linked.view_is ∙ c.in-Some.ensures.value)) (room_there g.R.RoomLike.room g.R.RoomLike.Holds old c.requires c.args.conn (conn_of c.linked.inside) (ap Some c.linked.view_is ∙ c.in-Some.ensures.value)))
+    takes_handled g.R.RoomLike.room g.R.RoomLike.Holds g.R.RoomLike.handled (happened.Lost c.args.conn) old c.handle_in.new.self c.args.outs.now c.handle_in.new.outs c.linked.inside.room
+    (event.Lost c.linked.inside.session old.moment) c.handle_in.result
+    (lost_step (rules_of g.R.RoomLike.handled) h c.args.conn (conn_of c.linked.inside) (sym (ap Some c.linked.view_is ∙ c.in-Some.ensures.value))
+    (room_there g.R.RoomLike.room g.R.RoomLike.Holds old c.requires c.args.conn (conn_of c.linked.inside) (ap Some c.linked.view_is ∙ c.in-Some.ensures.value)))
     c.handle_in.ensures.hub c.handle_in.ensures.outs c.handle_in.ensures.stands
 
 pub returns-clause-cost : goal.returns-clause-cost

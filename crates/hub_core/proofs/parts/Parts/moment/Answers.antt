@@ -20,7 +20,8 @@ returns-clause-takes g c =
     let old = c.args.self.now in
     one_ok _ _ c.dispose_all.result (λ leaves.
     takes_moment g.R.RoomLike.room g.R.RoomLike.Holds g.R.RoomLike.handled c.args.now c.later-self.result c.in_ok-due.due.keys old c.requires c.know.ensures (sym c.later-self.ensures) c.in_ok-due.ensures.due
-    (record { alloc = old.alloc; moment = c.later-self.result; schema = old.schema; process = old.process; defs = old.defs; registry = old.registry; conns = old.conns; session_rooms = old.session_rooms }) c.lapse_all.new.self c.dispose_all.new.self c.args.outs.now c.lapse_all.new.outs c.dispose_all.new.outs refl refl refl refl refl refl c.in_ok-lapse_all.ensures.lapsed leaves) c.dispose_all.ensures
+    (record { alloc = old.alloc; moment = c.later-self.result; schema = old.schema; process = old.process; defs = old.defs; registry = old.registry; conns = old.conns; session_rooms = old.session_rooms })
+    c.lapse_all.new.self c.dispose_all.new.self c.args.outs.now c.lapse_all.new.outs c.dispose_all.new.outs refl refl refl refl refl refl c.in_ok-lapse_all.ensures.lapsed leaves) c.dispose_all.ensures
 
 pub returns-clause-cost : goal.returns-clause-cost
 returns-clause-cost g c =

@@ -20,5 +20,6 @@ returns g c =
     let within : d < length opens = subst (λ n. d < n) (sym c.requires.stands.order.opens) (of_there c.args.def d (λ d. d < length old.defs) c.in-Some.is c.requires.def) in
     let place : slice_get opens d ≡ Some c.index.result.now = slice_get-get_or opens d c.index.result.now within ∙ ap Some (sym c.index.ensures) in
     let same : (n : ℕ) → is_open_at c.index.result.now c.deref.result.now n ≡ is_listed g.R.RoomLike.room d criteria (find_by serial_of n ss) =
-    λ n. ap (λ k. is_open_at c.index.result.now k n) (c.deref.ensures.value ∙ c.in_ok-key.ensures) ∙ (sym (ap (λ o. option_map_or (λ o. is_open_at o (criteria_key criteria) n) o false) place) ∙ c.requires.stands.order.kept.listed d within criteria n) in
+    λ n. ap (λ k. is_open_at c.index.result.now k n) (c.deref.ensures.value ∙ c.in_ok-key.ensures)
+    ∙ (sym (ap (λ o. option_map_or (λ o. is_open_at o (criteria_key criteria) n) o false) place) ∙ c.requires.stands.order.kept.listed d within criteria n) in
     oldest_is g.R.RoomLike.room d criteria (is_open_at c.index.result.now c.deref.result.now) ss c.oldest.result c.know.ensures.0 same c.oldest.ensures ∙ sym (ap (option_and_then (oldest_of_def g.R.RoomLike.room ss criteria)) c.in-Some.is)

@@ -26,7 +26,8 @@ returns-in-Some-clause-takes g c =
 pub returns-in-None-clause-takes : goal.returns-in-None-clause-takes
 returns-in-None-clause-takes g c =
     let free : is_some (find_by conn_number c.args.conn c.args.self.now.conns) ≡ false = search rules in
-    one_ok _ _ c.refuse_opening.result (λ outs. opening_nowhere g.R.RoomLike.room g.R.RoomLike.Holds g.R.RoomLike.handled c.args.self.now c.requires.stands c.know.ensures c.args.conn c.args.target.now c.args.fresh c.args.outs.now c.refuse_opening.new.outs free c.in-None.ensures outs) c.refuse_opening.ensures
+    one_ok _ _ c.refuse_opening.result (λ outs. opening_nowhere g.R.RoomLike.room g.R.RoomLike.Holds g.R.RoomLike.handled c.args.self.now c.requires.stands c.know.ensures c.args.conn
+    c.args.target.now c.args.fresh c.args.outs.now c.refuse_opening.new.outs free c.in-None.ensures outs) c.refuse_opening.ensures
 
 pub returns-in-Some-clause-cost : goal.returns-in-Some-clause-cost
 returns-in-Some-clause-cost g c =

@@ -20,5 +20,6 @@ returns g c =
     let def_is : own ≡ get_or old.defs s.def (g.R.RoomLike.room s.room).def = def_there old.defs s.def own (g.R.RoomLike.room s.room).def (def_within g.R.RoomLike.room g.R.RoomLike.Holds old c.args.at.serial s c.requires.order at) is in
     let text_is : c.in_ok-text.text ≡ seat_text h c.args.session (room_in g.R.RoomLike.room s) =
     c.in_ok-text.ensures ∙ reply_same h (room_in g.R.RoomLike.room s) c.args.session c.as_str-name.result.now c.listed-listing.result c.listed-listing.ensures (c.as_str-name.ensures ∙ ap (λ (d : RoomDef). d.name) def_is) in
-    one_ok _ _ c.push.result (λ outs. subst (λ o. IfSome o (λ (s : RoomEntry g.row.R.Denot). c.push.new.self ≡ c.args.outs.now ++ out.Reply c.args.conn (seat_text h c.args.session (room_in g.R.RoomLike.room s)) ∷ [])) (sym at) (outs ∙ ap (λ t. c.args.outs.now ++ out.Reply c.args.conn t ∷ []) text_is))
+    one_ok _ _ c.push.result (λ outs. subst (λ o. IfSome o (λ (s : RoomEntry g.row.R.Denot). c.push.new.self ≡ c.args.outs.now ++ out.Reply c.args.conn (seat_text h c.args.session (room_in g.R.RoomLike.room s)) ∷ []))
+    (sym at) (outs ∙ ap (λ t. c.args.outs.now ++ out.Reply c.args.conn t ∷ []) text_is))
     (pushed_ok c.push.result c.push.new.self c.args.outs.now (out.Reply c.args.conn c.in_ok-text.text ∷ []) c.push.ensures)

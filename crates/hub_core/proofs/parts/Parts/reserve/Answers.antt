@@ -22,14 +22,34 @@ lawful g = record { goes_on = g.met.R.RoomLike.goes_on; tells = g.met.R.RoomLike
 
 pub reply-requires-clause-there : goal.reply-requires-clause-there
 reply-requires-clause-there g c =
-    let old : Parts g.row.R.Denot = record { alloc = c.args.self.now.alloc; moment = c.args.self.now.moment; schema = c.args.self.now.schema; process = c.args.self.now.process; defs = c.args.self.now.defs; registry = c.args.self.now.registry; conns = c.args.self.now.conns; session_rooms = c.note.new.self } in
+    let old : Parts g.row.R.Denot = record {
+      alloc = c.args.self.now.alloc;
+      moment = c.args.self.now.moment;
+      schema = c.args.self.now.schema;
+      process = c.args.self.now.process;
+      defs =
+          c.args.self.now.defs;
+      registry = c.args.self.now.registry;
+      conns = c.args.self.now.conns;
+      session_rooms = c.note.new.self;
+    } in
     let P = λ (s : RoomEntry g.row.R.Denot). Turned g.R.RoomLike.room g.R.RoomLike.is_spent g.R.RoomLike.handled (event.Reserve c.args.session c.lapse_in.result) s old c.handle_at.new.self c.args.outs.now c.handle_at.new.outs in
     let it = there (find_by serial_of c.args.at.serial old.registry.rooms) P c.requires.there c.in_ok-handle_at.ensures.turned in
     ap is_some (stepped_found g.R.RoomLike.room g.R.RoomLike.is_spent c.args.at.serial it.it old.registry.rooms c.handle_at.new.self.registry.rooms _ it.holds.stepped it.is)
 
 -- the hub in which the session is noted
 abbrev noted : (g : Over) (c : goal.Joined-event-9 g) → Parts g.row.R.Denot
-noted g c = record { alloc = c.args.self.now.alloc; moment = c.args.self.now.moment; schema = c.args.self.now.schema; process = c.args.self.now.process; defs = c.args.self.now.defs; registry = c.args.self.now.registry; conns = c.args.self.now.conns; session_rooms = c.note.new.self }
+noted g c = record {
+  alloc = c.args.self.now.alloc;
+  moment = c.args.self.now.moment;
+  schema = c.args.self.now.schema;
+  process = c.args.self.now.process;
+  defs = c.args.self.now.defs;
+  registry =
+      c.args.self.now.registry;
+  conns = c.args.self.now.conns;
+  session_rooms = c.note.new.self;
+}
 
 order : (g : Over) (c : goal.Joined-event-9 g) → InOrder g.R.RoomLike.room g.R.RoomLike.Holds (noted g c)
 order g c =
@@ -47,7 +67,17 @@ order g c =
     }
 
 abbrev new : (g : Over) (c : goal.Joined-event-9 g) → Parts g.row.R.Denot
-new g c = record { alloc = c.handle_at.new.self.alloc; moment = c.handle_at.new.self.moment; schema = c.handle_at.new.self.schema; process = c.handle_at.new.self.process; defs = c.handle_at.new.self.defs; registry = c.dispose.new.self; conns = c.handle_at.new.self.conns; session_rooms = c.handle_at.new.self.session_rooms }
+new g c = record {
+  alloc = c.handle_at.new.self.alloc;
+  moment = c.handle_at.new.self.moment;
+  schema = c.handle_at.new.self.schema;
+  process = c.handle_at.new.self.process;
+  defs =
+      c.handle_at.new.self.defs;
+  registry = c.dispose.new.self;
+  conns = c.handle_at.new.self.conns;
+  session_rooms = c.handle_at.new.self.session_rooms;
+}
 
 -- the note doesn't change the hub
 of_noted : (g : Over) (c : goal.Joined-event-9 g) (s : RoomEntry g.row.R.Denot) → Seated g.R.RoomLike.room g.R.RoomLike.Holds g.R.RoomLike.handled c.args.conn c.args.session s (noted g c) (new g c) c.args.outs.now c.dispose.new.outs
@@ -68,6 +98,8 @@ returns-clause-seated g c =
     let lapse = of_there (find_by serial_of c.args.at.serial ss) it.it (λ s. c.lapse_in.result ≡ old.moment + (def_of_room old.defs (room_in g.R.RoomLike.room s)).seat) it.is c.lapse_in.ensures.value in
     four_ok _ _ _ _ _ c.dispose.result (λ left outs kept count.
     subst (λ o. IfSome o (λ (s : RoomEntry g.row.R.Denot). Seated g.R.RoomLike.room g.R.RoomLike.Holds g.R.RoomLike.handled c.args.conn c.args.session s c.args.self.now (new g c) c.args.outs.now c.dispose.new.outs)) (sym it.is)
-    (of_noted g c it.it (seated g.R.RoomLike.room g.R.RoomLike.is_spent g.R.RoomLike.Holds g.R.RoomLike.handled (lawful g) c.args.session c.lapse_in.result c.args.at.serial c.args.conn old c.handle_at.new.self c.dispose.new.self c.args.outs.now c.handle_at.new.outs c.reply.new.outs
-    (order g c) c.requires.needed c.in_ok-handle_at.ensures.ordered it.it it.is lapse (may_reserve (g.R.RoomLike.room it.it.room) c.args.session c.lapse_in.result c.lapse_in.ensures.early place) it.holds c.in_ok-reply.ensures left (new g c) c.dispose.new.outs outs c.in_ok-handle_at.ensures.order c.dispose.ensures.ordered kept count refl refl refl refl refl refl refl)))
+    (of_noted g c it.it (seated g.R.RoomLike.room g.R.RoomLike.is_spent g.R.RoomLike.Holds g.R.RoomLike.handled (lawful g)
+    c.args.session c.lapse_in.result c.args.at.serial c.args.conn old c.handle_at.new.self c.dispose.new.self c.args.outs.now c.handle_at.new.outs c.reply.new.outs
+    (order g c) c.requires.needed c.in_ok-handle_at.ensures.ordered it.it it.is lapse (may_reserve (g.R.RoomLike.room it.it.room) c.args.session c.lapse_in.result c.lapse_in.ensures.early place)
+    it.holds c.in_ok-reply.ensures left (new g c) c.dispose.new.outs outs c.in_ok-handle_at.ensures.order c.dispose.ensures.ordered kept count refl refl refl refl refl refl refl)))
     c.dispose.ensures.rooms c.dispose.ensures.outs c.dispose.ensures.kept c.dispose.ensures.count

@@ -11,7 +11,8 @@ session_rooms-init g c =
 
 pub session_rooms-preserved-in_ok-insert : goal.session_rooms-preserved-in_ok-insert
 session_rooms-preserved-in_ok-insert g c =
-    still_kept g.R.RoomLike.room c.args.rooms.now c.args.self.now c.session_rooms.left.entries c.insert.new.self.entries c.next.new.self c.in-Some.session.now c.in-Some.serial.now c.requires (sym c.if-has_session.ensures) (λ q. c.in_ok-insert.ensures.updates.0 q)
+    still_kept g.R.RoomLike.room c.args.rooms.now c.args.self.now c.session_rooms.left.entries c.insert.new.self.entries c.next.new.self c.in-Some.session.now c.in-Some.serial.now c.requires
+    (sym c.if-has_session.ensures) (λ q. c.in_ok-insert.ensures.updates.0 q)
     (subst (AreStill g.R.RoomLike.room c.args.rooms.now c.session_rooms.left.entries) c.in-Some.ensures.steps c.session_rooms.invariant)
 
 pub session_rooms-preserved : goal.session_rooms-preserved

@@ -28,4 +28,5 @@ returns-in-Ok-clause-rooms g c =
     let old = get c.self.inside.slots in
     let set : IsSet old (get c.insert.new.self) c.in_ok-slot.slot (Some c.args.boxed) = record { here = c.in_ok-slot.ensures.updates.changed; others = c.in_ok-slot.ensures.updates.others } in
     let above : IsAbove serial_of c.args.boxed.serial (in_slots old c.self.inside.by_serial.entries) = rw (← c.self.view_is) at c.requires in
-    rw (← c.self.view_is) (ap (in_slots (get c.insert.new.self)) (rw c.get.ensures at c.in-Ok.ensures.entries) ∙ pushed_slots old (get c.insert.new.self) c.in_ok-slot.slot c.args.boxed c.self.inside.by_serial.entries c.self.invariant c.in_ok-slot.ensures.was_vacant set above)
+    rw (← c.self.view_is) (ap (in_slots (get c.insert.new.self)) (rw c.get.ensures at c.in-Ok.ensures.entries)
+    ∙ pushed_slots old (get c.insert.new.self) c.in_ok-slot.slot c.args.boxed c.self.inside.by_serial.entries c.self.invariant c.in_ok-slot.ensures.was_vacant set above)

@@ -40,4 +40,5 @@ pub returns-clause-rest : goal.returns-clause-rest
 returns-clause-rest g c =
     let old = get c.self.inside.slots in
     let set : IsSet old (get c.try_remove.new.self) c.in_ok-slot.slot None = record { here = c.try_remove.ensures.updates.changed; others = c.try_remove.ensures.updates.others } in
-    rw (← c.self.view_is) (ap (in_slots (get c.try_remove.new.self)) c.remove.ensures.entries ∙ removed_slots old (get c.try_remove.new.self) c.in_ok-slot.slot c.args.at.serial c.self.inside.by_serial.entries c.self.invariant (sym c.in_ok-slot.ensures.value) set)
+    rw (← c.self.view_is) (ap (in_slots (get c.try_remove.new.self)) c.remove.ensures.entries
+    ∙ removed_slots old (get c.try_remove.new.self) c.in_ok-slot.slot c.args.at.serial c.self.inside.by_serial.entries c.self.invariant (sym c.in_ok-slot.ensures.value) set)

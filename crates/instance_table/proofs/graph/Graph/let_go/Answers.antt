@@ -12,7 +12,8 @@ add-requires c =
 pub invariant_of-self : goal.invariant_of-self
 invariant_of-self c =
     let left : Node → List ℕ = λ n. without_one c.args.holder n.holders in
-    room_woken left c.self.inside.nodes c.let_go.new.self c.args.who c.self.inside.loose.numbers _ c.self.inside.loose.room _ c.let_go.ensures.rises c.if-let_go.ensures.value c.let_go.ensures.after c.add.ensures.numbers c.add.ensures.kept c.self.invariant
+    room_woken left c.self.inside.nodes c.let_go.new.self c.args.who c.self.inside.loose.numbers _ c.self.inside.loose.room _ c.let_go.ensures.rises c.if-let_go.ensures.value
+    c.let_go.ensures.after c.add.ensures.numbers c.add.ensures.kept c.self.invariant
 
 pub invariant_of-self-else-let_go : goal.invariant_of-self-else-let_go
 invariant_of-self-else-let_go c =

@@ -11,7 +11,8 @@ add-requires c =
 pub invariant_of-self : goal.invariant_of-self
 invariant_of-self c =
     let left : Node → List ℕ = λ n. filter (λ m. not (m == c.args.holder)) n.holders in
-    room_woken left c.self.inside.nodes c.let_go_all.new.self c.args.who c.self.inside.loose.numbers _ c.self.inside.loose.room _ c.let_go_all.ensures.rises c.if-let_go_all.ensures.value c.let_go_all.ensures.after c.add.ensures.numbers c.add.ensures.kept c.self.invariant
+    room_woken left c.self.inside.nodes c.let_go_all.new.self c.args.who c.self.inside.loose.numbers _ c.self.inside.loose.room _ c.let_go_all.ensures.rises c.if-let_go_all.ensures.value
+    c.let_go_all.ensures.after c.add.ensures.numbers c.add.ensures.kept c.self.invariant
 
 pub invariant_of-self-else-let_go_all : goal.invariant_of-self-else-let_go_all
 invariant_of-self-else-let_go_all c =

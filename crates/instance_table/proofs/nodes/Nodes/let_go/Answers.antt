@@ -22,13 +22,15 @@ returns-in_default-clause-rises c = subst (RisesFrom number_of 0) c.self.view_is
 pub invariant_of-self : goal.invariant_of-self
 invariant_of-self c =
     let here = rw c.as_slice.ensures.value at c.in-Ok.ensures.found in
-    let law = slots_edited true (held_less c.args.holder) c.who.inside.0 c.self.inside.slots.items c.in-Ok.at c.index_mut.result.now c.let_go.new.slot c.self.inside.len c.self.invariant.0 c.self.invariant.1 here.0 here.1 c.index_mut.ensures.value c.let_go.ensures.after in
+    let law = slots_edited true (held_less c.args.holder) c.who.inside.0 c.self.inside.slots.items c.in-Ok.at c.index_mut.result.now c.let_go.new.slot c.self.inside.len c.self.invariant.0
+    c.self.invariant.1 here.0 here.1 c.index_mut.ensures.value c.let_go.ensures.after in
     law.0
 
 pub returns-clause-after : goal.returns-clause-after
 returns-clause-after c =
     let here = rw c.as_slice.ensures.value at c.in-Ok.ensures.found in
-    let law = slots_edited true (held_less c.args.holder) c.who.inside.0 c.self.inside.slots.items c.in-Ok.at c.index_mut.result.now c.let_go.new.slot c.self.inside.len c.self.invariant.0 c.self.invariant.1 here.0 here.1 c.index_mut.ensures.value c.let_go.ensures.after in
+    let law = slots_edited true (held_less c.args.holder) c.who.inside.0 c.self.inside.slots.items c.in-Ok.at c.index_mut.result.now c.let_go.new.slot c.self.inside.len c.self.invariant.0
+    c.self.invariant.1 here.0 here.1 c.index_mut.ensures.value c.let_go.ensures.after in
     law.1 ∙ ap₂ (λ k es. at_node k (held_less c.args.holder) es) c.who.view_is c.self.view_is
 
 pub returns-clause-rises : goal.returns-clause-rises

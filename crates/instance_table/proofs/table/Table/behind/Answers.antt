@@ -1,8 +1,9 @@
-use Rattle.std.proofs.Common.{◌∙◌, ℕ, List, Some, not, ap, sym, arith}
+use Rattle.std.proofs.Common.{◌≡◌, ◌∙◌, ℕ, List, Some, true, not, ap, sym, subst, arith}
 use Rattle.std.specs.Option.{is_some}
+use Rattle.lists.proofs.Results.{on_err}
 use Rattle.state_model.specs.Members.{rows_through}
 use Rattle.state_model.specs.Reached.{reached}
-use Rattle.state_model.specs.Rows.{place_count, rows_of}
+use Rattle.state_model.specs.Rows.{is_live, place_count, rows_of}
 use Rattle.instance_table.specs.Behind.{numbers_behind, places_behind}
 use Rattle.instance_table.specs.declared.node.Node.{Node}
 use Rattle.instance_table.specs.Nodes.{rows_in}
@@ -75,3 +76,12 @@ returns-in_err-numbers-clause-most g c =
 
 pub returns-clause-most : goal.returns-clause-most
 returns-clause-most g c = omega (arith, returns-clause-cost g c)
+
+pub returns-in_err-numbers-clause-lacks : goal.returns-in_err-numbers-clause-lacks
+returns-in_err-numbers-clause-lacks g c =
+    let es = c.self.inside.graph.nodes in
+    let who = c.args.who in
+    let there = sym (ap is_some c.get.ensures) ∙ (some_copied c.get.result ∙ c.is_none.ensures) in
+    let live = live_node es who ∙ (there ∙ ap not c.if-is_none.false) in
+    let now = subst (λ (t : TableState). is_live t.state.rows who ≡ true) c.self.view_is live in
+    on_err c.from_residual.result now

@@ -20,6 +20,7 @@ pub invariant_of-self-2 : goal.invariant_of-self-2
 invariant_of-self-2 c = let added : Node = record { body = c.in-Some.body; holders = []; waits = true } in (
   (is_made c).table,
   omega (arith, ap (λ (g : GraphState). length g.nodes) c.in_ok-add.ensures.ok, length_push c.self.inside.graph.nodes (c.self.inside.given + 1, added), c.len.ensures.value, c.in_ok-reserve.ensures.ok),
+  omega (arith, ap (λ (g : GraphState). length g.nodes) c.in_ok-add.ensures.ok, length_push c.self.inside.graph.nodes (c.self.inside.given + 1, added), c.len-2.ensures.value, c.in_ok-reserve-2.ensures.ok),
 )
 
 pub returns-clause-ok : goal.returns-clause-ok

@@ -11,6 +11,7 @@ invariant_of-self c = (
   swept_table c.self.inside.schema c.self.inside.graph.nodes c.sweep.new.graph.nodes c.self.inside.given c.self.inside.totals.places c.self.inside.totals.text c.sweep.new.totals.places c.sweep.new.totals.text c.self.invariant.0
       c.sweep.ensures.rows c.sweep.ensures.counts c.sweep.ensures.exact c.sweep.ensures.places c.sweep.ensures.text c.sweep.ensures.less c.sweep.ensures.shorter c.sweep.ensures.fewer,
   omega (arith, c.sweep.ensures.room, c.sort.ensures.kept),
+  omega (arith, c.sweep.ensures.fewer, c.self.invariant.2),
 )
 
 pub returns-clause-swept : goal.returns-clause-swept

@@ -1,12 +1,13 @@
 use Rattle.std.proofs.Common.{◌<◌, arith, length, ap, sym}
 use Rattle.std.proofs.lemmas.Option.{slice_get_within}
+use Rattle.lists.proofs.Results.{on_ok}
 use Rattle.room_model.specs.declared.event.Stage.TheVariants.{Joining}
 use Rattle.live_state.specs.Live.{rows_of, schema_of}
 use Rattle.room_core.specs.Entries.{entered}
 use Rattle.room_core.specs.Steps.{client_at}
 use Rattle.room_core.specs.Values.{room_of}
 use Rattle.room_core.proofs.ClientLists.{as_read}
-use Rattle.room_core.proofs.Edited.{if_ok_same, on_ok}
+use Rattle.room_core.proofs.Edited.{if_ok_same}
 use Rattle.room_core.proofs.Entered.{enter_room, joins_apart, missed_opening}
 use Rattle.room_core.proofs.Seated.{did, no_seat}
 use Rattle.room_core.proofs.StandsLaws.{joins, stands_set}
@@ -24,7 +25,7 @@ returns-in_default-clause-room c =
     let p = c.args.self.now in
     let gone = no_seat (room_of p) c.args.session c.requires.order.placed c.in_default.ensures in
     let missed = missed_opening p.def p.criteria p.live p.shared p.clients.items c.args.session p.places c.args.token c.args.fresh gone in
-    on_ok _ c.one_out.result (sym (ap (λ x. x.0) missed))
+    on_ok c.one_out.result (sym (ap (λ x. x.0) missed))
 
 pub index_mut-requires : goal.index_mut-requires
 index_mut-requires c =

@@ -1,8 +1,9 @@
 use Rattle.std.proofs.Common.{◌++◌, refl, sym, ap, ◌∙◌}
+use Rattle.lists.proofs.Results.{on_ok, on_err}
 use Rattle.live_state.specs.Live.{rows_of, schema_of}
 use Rattle.room_core.specs.Values.{room_of, room_with}
 use Rattle.room_core.proofs.ClientLists.{as_read, set_same, told_set}
-use Rattle.room_core.proofs.Edited.{if_ok_same, on_err, on_ok}
+use Rattle.room_core.proofs.Edited.{if_ok_same}
 use Rattle.room_core.proofs.Orders.{told_ordered, told_sessions}
 use Rattle.room_core.proofs.StandsLaws.{stands_set}
 use Rattle.room_core.proofs.Told.{deaf_step, heard_outs, heard_room, unqueued_stands, unqueued_tells}
@@ -24,7 +25,7 @@ returns-in-Some-deaf-clause-room c =
     let one = c.index_mut-client.result.now in
     let own = as_read c.args.session cs c.in-Some.at one c.in-Some.ensures c.index_mut-client.ensures.value in
     let step = deaf_step p.def p.criteria p.live p.shared p.places cs c.args.session c.args.frame c.requires.order.placed.distinct c.in-Some.at one one own.0 own.1 c.in-Some-deaf.refusal (c.in-Some-deaf.ensures c.args.frame) in
-    on_ok _ c.refused-in-Some-deaf.result (ap (room_with p.def p.criteria p.live p.shared p.places) (set_same cs c.in-Some.at one own.0) ∙ sym (ap (λ x. x.0) step))
+    on_ok c.refused-in-Some-deaf.result (ap (room_with p.def p.criteria p.live p.shared p.places) (set_same cs c.in-Some.at one own.0) ∙ sym (ap (λ x. x.0) step))
 
 pub returns-in_err-tell-clause-order : goal.returns-in_err-tell-clause-order
 returns-in_err-tell-clause-order c =
@@ -32,7 +33,7 @@ returns-in_err-tell-clause-order c =
     let cs = p.clients.items in
     let one = c.index_mut-client.result.now in
     let own = as_read c.args.session cs c.in-Some.at one c.in-Some.ensures c.index_mut-client.ensures.value in
-    on_err _ c.from_residual.result (told_ordered (room_of p) _ refl (told_sessions cs _ (told_set cs c.in-Some.at one c.tell.new.client own.0 (unqueued_tells one c.tell.new.client c.tell.ensures.same))) c.requires.order)
+    on_err c.from_residual.result (told_ordered (room_of p) _ refl (told_sessions cs _ (told_set cs c.in-Some.at one c.tell.new.client own.0 (unqueued_tells one c.tell.new.client c.tell.ensures.same))) c.requires.order)
 
 pub returns-clause-outs : goal.returns-clause-outs
 returns-clause-outs c =

@@ -1,9 +1,9 @@
 use Rattle.std.proofs.Common.{◌≡◌, refl, sym, ap, ◌∙◌}
 use Rattle.std.proofs.lemmas.Result.{IfOk-weaker}
+use Rattle.lists.proofs.Results.{on_ok, on_err}
 use Rattle.room_model.specs.Room.{with_sessions}
 use Rattle.room_core.specs.Messages.{AreTold}
 use Rattle.room_core.specs.Values.{room_of}
-use Rattle.room_core.proofs.Edited.{on_err, on_ok}
 use Rattle.room_core.proofs.Orders.{told_ordered, told_sessions}
 use Rattle.room_core.proofs.Told.{all_told_outs, all_told_sessions, all_unqueued_stand, all_unqueued_tell, if_ok_on}
 use Rattle.room_core.proofs.parts.Parts.send_all.Goals as goal
@@ -24,9 +24,9 @@ returns-clause-room c =
 pub returns-clause-stands : goal.returns-clause-stands
 returns-clause-stands c =
     let p = c.args.self.now in
-    on_ok _ c.tell_all.result (all_unqueued_stand p.live p.shared p.clients.items c.tell_all.new.clients.items c.tell_all.ensures.same c.requires.stands.0, c.requires.stands.1, c.requires.stands.2)
+    on_ok c.tell_all.result (all_unqueued_stand p.live p.shared p.clients.items c.tell_all.new.clients.items c.tell_all.ensures.same c.requires.stands.0, c.requires.stands.1, c.requires.stands.2)
 
 pub returns-clause-order : goal.returns-clause-order
 returns-clause-order c =
     let p = c.args.self.now in
-    on_err _ c.tell_all.result (told_ordered (room_of p) _ refl (told_sessions p.clients.items _ (all_unqueued_tell p.clients.items c.tell_all.new.clients.items c.tell_all.ensures.same)) c.requires.order)
+    on_err c.tell_all.result (told_ordered (room_of p) _ refl (told_sessions p.clients.items _ (all_unqueued_tell p.clients.items c.tell_all.new.clients.items c.tell_all.ensures.same)) c.requires.order)

@@ -1,5 +1,6 @@
 use Rattle.std.proofs.Common.{◌+◌, ◌≤◌, List, map, length, refl, subst, ap, ◌∙◌}
 use Rattle.std.specs.List.{flat_map}
+use Rattle.lists.proofs.Results.{on_err}
 use Rattle.state_model.specs.declared.row.RowEntry.{RowEntry}
 use Rattle.state_model.specs.Members.{Members, no_members}
 use Rattle.state_model.specs.Rows.{place_count}
@@ -11,7 +12,6 @@ use Rattle.view_counts.specs.Settled.{view_before, view_now}
 use Rattle.room_core.specs.declared.client.Client.{Client}
 use Rattle.room_core.specs.Clients.{client_tells}
 use Rattle.room_core.specs.Values.{room_of, session_of_client}
-use Rattle.room_core.proofs.Edited.{on_err}
 use Rattle.room_core.proofs.Orders.{swept_tell, told_ordered, told_sessions}
 use Rattle.room_core.proofs.TickedRoom.{last_tick, can_settle, shared_settled, each_stands, tick_sent, tick_sessions, tick_steps, same_room}
 use Rattle.room_core.proofs.parts.Parts.tick.Goals as goal
@@ -107,15 +107,15 @@ returns-in_err-outs-clause-cost g c =
 pub returns-in_err-settle-clause-order : goal.returns-in_err-settle-clause-order
 returns-in_err-settle-clause-order g c =
     let p = c.args.self.now in
-    on_err _ _ (told_ordered (room_of p) _ refl (told_sessions p.clients.items _ (ap (map client_tells) c.forget_all.ensures.clients ∙ swept_tell (rows_of c.sweep.new.self) p.clients.items)) c.requires.order)
+    on_err _ (told_ordered (room_of p) _ refl (told_sessions p.clients.items _ (ap (map client_tells) c.forget_all.ensures.clients ∙ swept_tell (rows_of c.sweep.new.self) p.clients.items)) c.requires.order)
 
 pub returns-in_err-part-clause-order : goal.returns-in_err-part-clause-order
 returns-in_err-part-clause-order g c =
     let p = c.args.self.now in
-    on_err _ _ (told_ordered (room_of p) _ refl (told_sessions p.clients.items _ (ap (map client_tells) c.forget_all.ensures.clients ∙ swept_tell (rows_of c.sweep.new.self) p.clients.items)) c.requires.order)
+    on_err _ (told_ordered (room_of p) _ refl (told_sessions p.clients.items _ (ap (map client_tells) c.forget_all.ensures.clients ∙ swept_tell (rows_of c.sweep.new.self) p.clients.items)) c.requires.order)
 
 pub returns-in_err-outs-clause-order : goal.returns-in_err-outs-clause-order
 returns-in_err-outs-clause-order g c =
     let p = c.args.self.now in
-    on_err _ _ (told_ordered (room_of p) _ refl
+    on_err _ (told_ordered (room_of p) _ refl
     (told_sessions p.clients.items _ (c.in_err-outs.ensures.told ∙ (ap (map client_tells) c.forget_all.ensures.clients ∙ swept_tell (rows_of c.sweep.new.self) p.clients.items))) c.requires.order)

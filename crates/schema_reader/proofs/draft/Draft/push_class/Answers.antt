@@ -16,4 +16,6 @@ invariant_of-self-2 c =
     let fresh : class_place cs c.args.name.now ≡ None = ap (λ t. class_place t c.args.name.now) view ∙ c.requires.fresh in
     let classes : c.push-2.new.self.items ≡ cs ++ record { name = c.args.name.now; parent = c.args.parent; own = [] } ∷ [] = grind (arith, common_steps) in
     let names : c.push.new.self.items ≡ c.self.inside.names.items ++ c.in_ok-names.names ∷ [] = grind (arith, common_steps) in
-    indexed_class cs _ (record { name = c.args.name.now; parent = c.args.parent; own = [] }) _ _ _ _ c.in_ok-names.names c.self.invariant room fresh classes names refl (c.in_ok-names.ensures ∙ ap (λ t. names_inherited (names_from [] t) c.args.parent) (sym view)) (λ q. c.in_ok-add_place.ensures.ok q ∙ ap (λ k. update bytes_eq (place_in c.self.inside.places) c.args.name.now (Some k) q) (omega (arith, c.len-place.ensures, c.self.inside.classes.ok.0)))
+    indexed_class cs _ (record { name = c.args.name.now; parent = c.args.parent; own = [] }) _ _ _ _ c.in_ok-names.names c.self.invariant room fresh classes names refl
+    (c.in_ok-names.ensures ∙ ap (λ t. names_inherited (names_from [] t) c.args.parent) (sym view))
+    (λ q. c.in_ok-add_place.ensures.ok q ∙ ap (λ k. update bytes_eq (place_in c.self.inside.places) c.args.name.now (Some k) q) (omega (arith, c.len-place.ensures, c.self.inside.classes.ok.0)))

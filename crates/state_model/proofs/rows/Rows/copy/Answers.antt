@@ -1,6 +1,6 @@
 use Rattle.std.proofs.Common.{arith}
+use Rattle.lists.proofs.Places.{next_is_above}
 use Rattle.state_model.specs.declared.row.RowEntry.{RowEntry}
-use Rattle.state_model.proofs.Rises.{next_is_above}
 use Rattle.state_model.proofs.rows.Rows.copy.Goals as goal
 
 pub push-requires : goal.push-requires

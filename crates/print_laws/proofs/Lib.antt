@@ -1,0 +1,12 @@
+pub mod Bytes
+pub mod Commands
+pub mod Dealt
+pub mod EventsCome
+pub mod HubSteps
+pub mod Read
+pub mod Replied
+pub mod RoomSteps
+pub mod Runs
+pub mod Sessions
+pub mod StateBytes
+pub mod Texts
