@@ -1,5 +1,5 @@
 //! Words in hex, read and written byte by byte.
-ghost use Rattle.std.specs.Prelude.{◌≡◌, ◌++◌, ◌<◌, OnOk, OnErr};
+ghost use Rattle.std.specs.Prelude.{◌≡◌, ◌++◌, ◌∷◌, [], ◌<◌, OnOk, OnErr};
 ghost use Rattle.std.specs.Io.{StartsWith};
 ghost use Rattle.std.specs.List.{flat_map};
 ghost use Rattle.text_model.specs.Marks.{hex_byte, hex_digit, hex_word};
@@ -77,9 +77,9 @@ fn hex_digit(number: u8) -> u8
     }
 }
 
-/// Appends two digits for each byte. An `Err` may leave a part of them.
+// Appends two digits for each byte, one byte after another. An `Err` may leave a part of them.
 #[tactic(auto, using(lists::proofs::Prefixes::starts_after, lists::proofs::Prefixes::starts_with_prefix))]
-fn append_pairs(out: &mut Vec<u8>, bytes: &[u8]) -> Result<(), Memory>
+fn append_each(out: &mut Vec<u8>, bytes: &[u8]) -> Result<(), Memory>
     ensures ok { OnOk result (out.new.items ≡ out.old.items ++ flat_map hex_byte bytes.now) }
     ensures err { OnErr result (StartsWith out.new.items out.old.items) }
 {
@@ -87,6 +87,37 @@ fn append_pairs(out: &mut Vec<u8>, bytes: &[u8]) -> Result<(), Memory>
         out.extend_from_slice(&[hex_digit(byte / 16), hex_digit(byte % 16)])?;
     }
     Ok(())
+}
+
+// Appends the digits of four bytes.
+fn append_four(out: &mut Vec<u8>, a: u8, b: u8, c: u8, d: u8) -> Result<(), Memory>
+    ensures ok { OnOk result (out.new.items ≡ out.old.items ++ flat_map hex_byte (a ∷ b ∷ c ∷ d ∷ [])) }
+    ensures err { OnErr result (out.new.items ≡ out.old.items) }
+{
+    out.extend_from_slice(&[
+        hex_digit(a / 16),
+        hex_digit(a % 16),
+        hex_digit(b / 16),
+        hex_digit(b % 16),
+        hex_digit(c / 16),
+        hex_digit(c % 16),
+        hex_digit(d / 16),
+        hex_digit(d % 16),
+    ])?;
+    Ok(())
+}
+
+/// Appends two digits for each byte. An `Err` may leave a part of them.
+fn append_pairs(out: &mut Vec<u8>, bytes: &[u8]) -> Result<(), Memory>
+    ensures ok { OnOk result (out.new.items ≡ out.old.items ++ flat_map hex_byte bytes.now) }
+    ensures err { OnErr result (StartsWith out.new.items out.old.items) }
+{
+    let mut rest = bytes;
+    while let [a, b, c, d, behind @ ..] = rest {
+        append_four(out, *a, *b, *c, *d)?;
+        rest = behind;
+    }
+    append_each(out, rest)
 }
 
 /// Appends bytes in hex, or `-` where there are none. An `Err` may leave a part of them.
