@@ -3,7 +3,7 @@
 
 mod amounts;
 mod behind;
-mod body;
+pub mod body;
 mod cause;
 mod changes;
 mod edits;
@@ -29,5 +29,6 @@ mod walk;
 mod walk_room;
 mod way;
 
+pub use body::Body;
 pub use fixed_room::FixedRoom;
 pub use table::Table;

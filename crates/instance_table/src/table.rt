@@ -3,12 +3,12 @@ ghost use Rattle.std.specs.Prelude.{◌≡◌, ◌≤◌, ◌+◌, Err, IfOk, No
 ghost use Rattle.std.specs.Option.{option_map};
 ghost use Rattle.state_model.specs.declared.command.TableFault.TheVariants as fault;
 ghost use Rattle.state_model.specs.Commands.{do_command, holder_of, refusal_of};
-ghost use Rattle.state_model.specs.Rows.{is_live};
+ghost use Rattle.state_model.specs.Rows.{is_live, row_at};
 ghost use Rattle.state_model.specs.Spelled.{are_spelled};
 ghost use Rattle.state_model.specs.State as state;
 ghost use Rattle.command_laws.specs.Kept.{IsKept};
 ghost use Rattle.instance_table.specs.Behind.{numbers_behind, places_behind};
-ghost use Rattle.instance_table.specs.Bodies.{takes_out};
+ghost use Rattle.instance_table.specs.Bodies.{row_of, takes_out};
 ghost use Rattle.instance_table.specs.Holders.{holders_of};
 ghost use Rattle.command_laws.specs.Later.{IsLater};
 ghost use Rattle.instance_table.specs.Table.{Answers, freed_numbers, new_table, value_of};
@@ -168,6 +168,14 @@ impl Table {
         steps.tick();
         let node = self.graph.get(at.holder)?;
         node.body.value_at(at.key)
+    }
+
+    /// The row of a number; None exactly where it isn't live.
+    pub fn row(&self, who: RefNum) -> Option<&Body>
+        ensures { option_map row_of (option_copied result) ≡ row_at self.now.state.rows who }
+    {
+        let node = self.graph.get(who)?;
+        Some(&node.body)
     }
 
     /// How many places hold a row.
