@@ -1,0 +1,9 @@
+pub mod Actions
+pub mod Datum
+pub mod Plays
+pub mod Presence
+pub mod Scenes
+pub mod ScriptReading
+pub mod ScriptWords
+pub mod Serving
+pub mod Steps
