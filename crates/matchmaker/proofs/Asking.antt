@@ -5,13 +5,14 @@ use Rattle.std.proofs.lemmas.Bool.Decides.{nat_tests}
 use Rattle.std.specs.Str.{is_utf8}
 use Rattle.json.specs.Json.{Json, if_last, value}
 use Rattle.json.specs.Lex.{tokens}
+use Rattle.serde_json.specs.Data.{Data}
 use Rattle.serde_json.specs.Read.{of_json, read}
 use Rattle.lists.proofs.Tests.{or_wider}
 use Rattle.room_model.specs.declared.definition.RoomDef.{RoomDef}
 use Rattle.hub_model.specs.declared.request.AskFault.{AskFault}
 use Rattle.hub_model.specs.declared.request.AskFault.TheVariants.{NoMethod, BadPayload, NoHandler, Memory}
 use Rattle.hub_model.specs.declared.request.Request.{Request}
-use Rattle.hub_model.specs.Requests.{Asked, Said, asked_of, read_request, with_body}
+use Rattle.hub_model.specs.Requests.{Asked, asked_of, read_request, with_body}
 use Rattle.validate.specs.Json.{is_json}
 use Rattle.matchmaker.specs.Bodies.{can_be_read, said_by, said_of_data}
 use Rattle.matchmaker.specs.Gives.{GivesAsked, GivesRequest, LacksBody, has_escape, takes_memory}
@@ -39,17 +40,16 @@ given defs target raw body asked (Err Memory) is reads escape h =
     let taken : IsOk (read_request defs target (said_by body)) ⊎ IsTrue (takes_memory target body) = rw (← is) (elim h [ inl ok ↦ inl ok | inr takes ↦ inr (or_wider (has_escape raw) (has_escape target) (nat_lt 0 (length body)) escape takes) ]) in
     (both, taken)
 
--- what can't be read says nothing
-unread_text : (text : Bool) (j : Option Json) → (text && is_some j) ≡ false → (if text then option_and_then said_of_data (option_and_then of_json j) else None) ≡ None
+-- what can't be read is no value
+unread_text : (text : Bool) (j : Option Json) → (text && is_some j) ≡ false → (if text then option_and_then of_json j else None) ≡ None
 unread_text false j h = refl
 unread_text true None h = refl
 unread_text true (Some j) h = absurd cc
 
-unread : (empty : Bool) (body : List ℕ) (said : Option Said) → (empty || is_json body) ≡ false
-    → (if empty then said else (if is_utf8 body then option_and_then said_of_data (read body) else None)) ≡ None
-unread true body said h = absurd cc
-unread false body said h = unread_text (is_utf8 body) (option_and_then (λ p. if_last p.0 p.1) (value 127 (tokens body))) h
+unread : (empty : Bool) (body : List ℕ) (there : Option Data) → (empty || is_json body) ≡ false → (if empty then there else (if is_utf8 body then read body else None)) ≡ None
+unread true body there h = absurd cc
+unread false body there h = unread_text (is_utf8 body) (option_and_then (λ p. if_last p.0 p.1) (value 127 (tokens body))) h
 
 -- so a target that asks with it is refused
 pub refused : (defs : List RoomDef) (target body : List ℕ) (asked : Asked) → Some asked ≡ asked_of target → can_be_read body ≡ false → read_request defs target (said_by body) ≡ Err BadPayload
-refused defs target body asked is reads = rw (← is) (ap (with_body defs asked) (unread (length body == 0) body _ reads))
+refused defs target body asked is reads = rw (← is) (ap (λ d. with_body defs asked (option_and_then said_of_data d)) (unread (length body == 0) body _ reads))

@@ -1,5 +1,5 @@
 -- What bodies say.
-use Rattle.std.proofs.Common.{◌≡◌, ℕ, ◌==◌, ◌∙◌, true, false, Bool, List, [], Option, Some, None, option_and_then, refl, sym, ap, length, true≢false, inl, inr, if◌then◌else◌, Ordering, Less, Equal, Greater, is_eq, cond, ◌||◌, bytes_eq, nat_cmp}
+use Rattle.std.proofs.Common.{◌≡◌, ℕ, ◌==◌, ◌∙◌, true, false, Bool, List, [], Option, Some, None, option_and_then, refl, sym, ap, length, true≢false, inl, inr, if◌then◌else◌, Ordering, Less, Equal, Greater, is_eq, cond, bytes_eq, nat_cmp}
 use Rattle.std.specs.Prelude.{is_some}
 use Rattle.std.specs.Option.{option_map_or}
 use Rattle.std.specs.Ordering.{match_ordering}
@@ -16,7 +16,7 @@ use Rattle.serde_json.specs.Written.{compact_text, has_float, members_have_float
 use Rattle.lists.proofs.Tests.{or_false}
 use Rattle.schema_model.specs.Ids.{is_id}
 use Rattle.hub_model.specs.Requests.{Member, said_of}
-use Rattle.matchmaker.specs.Bodies.{all_said, id_said, members_in, members_said, said_by, said_in, said_of_data, token_in}
+use Rattle.matchmaker.specs.Bodies.{all_said, data_by, id_said, members_in, members_said, said_by, said_in, said_of_data, token_in}
 
 -- ---- objects
 
@@ -44,6 +44,9 @@ said_empty body empty = rw empty refl
 
 pub said_read : (body : List ℕ) (d : Data) → length body == 0 ≡ false → IsUtf8 body → read body ≡ Some d → said_by body ≡ said_of_data d
 said_read body d long text is = let utf8 = is_utf8-from_IsUtf8 body text in rw (long, utf8, is) refl
+
+pub data_read : (body : List ℕ) (d : Data) → length body == 0 ≡ false → IsUtf8 body → read body ≡ Some d → data_by body ≡ Some d
+data_read body d long text is = let utf8 = is_utf8-from_IsUtf8 body text in rw (long, utf8) is
 
 pub said_bad : (body : List ℕ) → length body == 0 ≡ false → (IsUtf8 body → read body ≡ None) → said_by body ≡ None
 said_bad body long h = elim (cases_Bool (is_utf8 body)) [ inl text ↦ (let is = h (IsUtf8-from_is_utf8 body text) in rw (long, text, is) refl) | inr other ↦ rw (long, other) refl ]

@@ -1,20 +1,12 @@
 -- Texts of replies.
-use Rattle.std.proofs.Common.{◌≡◌, ℕ, ◌<◌, true, false, List, [], ◌∷◌, ◌++◌, ◌==◌, arith, length, ap, ◌∙◌, refl, append_assoc, rules, String, Global, string_bytes}
-use Rattle.std.specs.Prelude.{Result, Ok, Err}
-use Rattle.std.specs.List.{list_all, flat_map}
-use Rattle.std.specs.Result.{MatchResult, IsOk}
-use Rattle.std.specs.Str.{IsAscii, IsUtf8}
-use Rattle.std.proofs.lemmas.Bool.{and_parts}
-use Rattle.std.proofs.lemmas.Bool.Decides.{nat_tests}
-use Rattle.std.proofs.lemmas.Str.{IsUtf8-from_ascii}
-use Rattle.std.proofs.lemmas.Str.Ascii.{IsAscii-nil, IsAscii-cons}
+use Rattle.std.proofs.Common.{◌≡◌, ℕ, false, List, [], ◌∷◌, ◌++◌, ap, ◌∙◌, refl, append_assoc, rules, String, Global, string_bytes}
+use Rattle.std.specs.List.{flat_map}
 use Rattle.serde_json.specs.Data.{string}
 use Rattle.serde_json.specs.View.{view}
 use Rattle.serde_json.specs.Written.{compact_text, has_float}
 use Rattle.serde_json.specs.declared.value.Value as value
 use Rattle.serde_json.specs.declared.value.Value.{the_lemmas}
 use Rattle.json.specs.Print.{escape_byte, quoted}
-use Rattle.schema_model.specs.Ids.{is_id, is_id_byte}
 use Rattle.hub_model.specs.Replies.{json_byte, json_text}
 
 -- ---- texts in quotes

@@ -4,7 +4,7 @@ use Rattle.std.specs.Option.{option_map_or}
 use Rattle.std.specs.Str.{is_utf8}
 use Rattle.schema_model.specs.Ids.{is_id}
 use Rattle.hub_model.specs.Requests.{Member, Said}
-use Rattle.serde_json.specs.Data.{Data, Members, no_members, member, string}
+use Rattle.serde_json.specs.Data.{Data, Members, no_members, member, object, string}
 use Rattle.serde_json.specs.Find.{as_object, get}
 use Rattle.serde_json.specs.Read.{read}
 use Rattle.serde_json.specs.Written.{compact_text, has_float}
@@ -39,11 +39,15 @@ all_said d = record { members = members_in d; token = token_in d }
 abbrev pub said_of_data : Data → Option Said
 said_of_data d = if has_float d then None else said_in d (as_object d)
 
--- an empty body is an empty object
+-- the JSON value of a body; an empty body is an empty object
+abbrev pub data_by : List ℕ → Option Data
+data_by body =
+    if length body == 0 then Some (object no_members)
+    else if is_utf8 body then read body else None
+
+-- what a body says
 abbrev pub said_by : List ℕ → Option Said
-said_by body =
-    if length body == 0 then Some (record { members = []; token = None })
-    else if is_utf8 body then option_and_then said_of_data (read body) else None
+said_by body = option_and_then said_of_data (data_by body)
 
 -- it can be read: it is empty, or a JSON text
 abbrev pub can_be_read : List ℕ → Bool

@@ -1,5 +1,5 @@
 -- What a request by the name of a definition leads to where the definition and the room were found. After Colyseus 0.16.
-use Rattle.std.specs.Prelude.{ℕ, List, Option, Some, None, codes}
+use Rattle.std.specs.Prelude.{ℕ, Option, Some, None, codes}
 use Rattle.frame_model.specs.declared.codes.TheConstants.{INVALID_CRITERIA, NO_HANDLER}
 use Rattle.hub_model.specs.declared.request.Decision.{Decision}
 use Rattle.hub_model.specs.declared.request.Decision.TheVariants as decision

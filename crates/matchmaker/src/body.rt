@@ -4,7 +4,7 @@ ghost use Rattle.serde_json.specs.View.{view};
 ghost use Rattle.serde_json.specs.Written.{has_float};
 ghost use Rattle.hub_model.specs.Requests.{said_of};
 ghost use Rattle.hub_model.specs.declared.request.AskFault.TheVariants.{BadPayload};
-ghost use Rattle.matchmaker.specs.Bodies.{all_said, can_be_read, id_said, members_in, said_by, said_of_data, token_in};
+ghost use Rattle.matchmaker.specs.Bodies.{all_said, can_be_read, data_by, id_said, members_in, said_by, said_of_data, token_in};
 ghost use Rattle.matchmaker.specs.Gives.{LacksBody};
 
 use crate::whole::has_float;
@@ -26,6 +26,7 @@ pub fn can_be_read(body: &[u8]) -> bool
 /// whole one of 64 bits.
 pub fn read_body(alloc: Global, body: &[u8]) -> Result<Value, AskFault>
     ensures whole { IfOk result (λ v. has_float (view v) ≡ false) }
+    ensures data { IfOk result (λ v. data_by body.now ≡ Some (view v)) }
     ensures said { IfOk result (λ v. said_by body.now ≡ Some (all_said (view v))) }
     ensures err { IfErr result (λ fault. LacksBody body.now fault) }
 {
@@ -63,6 +64,7 @@ pub fn token_of(said: &Value) -> Option<Id>
 // A value that is an object and has only whole numbers of 64 bits.
 fn object(value: Value) -> Result<Value, AskFault>
     ensures whole { IfOk result (λ v. has_float (view v) ≡ false) }
+    ensures data { IfOk result (λ v. Some (view value) ≡ Some (view v)) }
     ensures said { IfOk result (λ v. said_of_data (view value) ≡ Some (all_said (view v))) }
     ensures err { IfErr result (λ fault. (fault ≡ BadPayload) × (said_of_data (view value) ≡ None)) }
 {

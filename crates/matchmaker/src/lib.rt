@@ -11,6 +11,7 @@ mod target;
 mod text;
 mod whole;
 
+pub use body::read_body;
 pub use decision::{decide, decide_found};
 pub use hub_model::{AskFault, Decision, Listing, Method, Opening, Request};
 pub use listing::{def_at, meets};

@@ -1,8 +1,13 @@
-use Rattle.std.proofs.Common.{◌≡◌, ◌==◌, length, false, rules, sym, true≢false}
+use Rattle.std.proofs.Common.{◌≡◌, ◌==◌, Some, length, false, rules, sym, true≢false}
 use Rattle.serde_json.specs.View.{view}
-use Rattle.matchmaker.specs.Bodies.{said_by, said_of_data}
-use Rattle.matchmaker.proofs.BodyLaws.{said_bad, said_read}
+use Rattle.matchmaker.specs.Bodies.{data_by, said_by, said_of_data}
+use Rattle.matchmaker.proofs.BodyLaws.{data_read, said_bad, said_read}
 use Rattle.matchmaker.proofs.body.read_body.Goals as goal
+
+pub returns-in-Ok-clause-data : goal.returns-in-Ok-clause-data
+returns-in-Ok-clause-data c =
+    let long : length c.args.body.now == 0 ≡ false = search rules in
+    let is : data_by c.args.body.now ≡ Some (view c.in-Ok.value) = data_read _ _ long c.in-Ok.ensures.ok.0 c.in-Ok.ensures.ok.1 in rw is c.object.ensures.data
 
 pub returns-in-Ok-clause-said : goal.returns-in-Ok-clause-said
 returns-in-Ok-clause-said c =
