@@ -19,6 +19,3 @@ pub use opening::read_target;
 pub use reply::{refusal_text, reply_text};
 pub use request::read_request;
 pub use room_model::RoomDef;
-
-#[cfg(test)]
-mod tests;

@@ -28,6 +28,3 @@ pub use schedule::read_schedule;
 pub use text_model::{Print, Schedule, ScheduleFault, Word};
 pub use words::{read_kind, read_plain, read_quoted, read_value};
 pub use write::{write_definitions, write_event, write_plain, write_quoted, write_value};
-
-#[cfg(test)]
-mod tests;

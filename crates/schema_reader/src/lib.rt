@@ -14,6 +14,3 @@ mod write;
 pub use read::read_schema;
 pub use text_model::SchemaFault;
 pub use write::write_schema;
-
-#[cfg(test)]
-mod tests;

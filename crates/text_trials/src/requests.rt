@@ -1,8 +1,8 @@
-use crate::{
+use lists::{Memory, Seq, Text};
+use matchmaker::{
     AskFault, Decision, Listing, Method, Opening, Request, decide, read_request, read_target,
     refusal_text, reply_text,
 };
-use lists::{Memory, Seq, Text};
 use room_model::{RoomDef, Texts};
 use schema_model::{Id, is_id};
 use std::alloc::{AllocError, Global};

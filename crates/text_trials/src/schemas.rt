@@ -1,5 +1,5 @@
-use crate::{SchemaFault, read_schema, write_schema};
 use lists::Memory;
+use schema_reader::{SchemaFault, read_schema, write_schema};
 use std::alloc::{AllocError, Global};
 use std::test::Fail;
 

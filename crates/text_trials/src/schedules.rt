@@ -1,8 +1,8 @@
-use crate::{
+use lists::{Memory, Rising, Seq, Text};
+use schedule_text::{
     LineFault, print_out, print_rows, read_event, read_kind, read_plain, read_print, read_quoted,
     read_schedule, read_value, write_definitions, write_event,
 };
-use lists::{Memory, Rising, Seq, Text};
 use schema_model::{Home, RefNum, TypeNum, Value};
 use state_model::{FieldValue, MapItem, Row, RowEntry, Rows, SetItem};
 use std::alloc::{AllocError, Global};
